@@ -1,0 +1,4 @@
+pub mod Held
+pub mod Direction
+pub mod Standing
+pub mod Keeping

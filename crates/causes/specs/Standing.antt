@@ -1,0 +1,31 @@
+-- Step 9, NZ5: standing without the direct brake.
+use Prim.Native.Nat.{ℕ, _+_, _-_, min}
+use mathlib.Core.Bool.{Bool, not, _&&_, cond}
+use lib.Dec.{leb, eqb}
+use Rattle.card.specs.declared.Card.{Card}
+use Rattle.record.specs.declared.Record.{Record}
+use Rattle.record.specs.declared.Keys.{Keys}
+use Rattle.record.specs.Modes.{preOrVyl}
+use Rattle.causes.specs.declared.Stood.{Stood}
+
+-- v = 0, direct brake off and band 2
+abbrev pub unbraked : Record → Keys → Bool
+unbraked r k = eqb (r .v) 0 && not (k .brake) && eqb (r .band) 2
+
+-- held: NZ5 was held before this tick
+module _ (card : Card) (mode : ℕ) (r : Record) (k : Keys) (held : Bool) (h : ℕ) where
+  -- h = min(wait, h + 1), else h = 0; a vigilance press while NZ5 is held sets h = 0; other modes keep h
+  unfoldable pub standingNow : ℕ
+  standingNow =
+      cond (preOrVyl mode) (cond (k .vigilance && held) 0 (cond (unbraked r k) (min (card .wait) (h + 1)) 0)) h
+
+  -- h = wait triggers
+  unfoldable pub standingTriggers : Bool
+  standingTriggers = preOrVyl mode && eqb standingNow (card .wait)
+
+  -- ZS20 sounds from h = wait − 100
+  unfoldable pub standingSounds : Bool
+  standingSounds = preOrVyl mode && leb (card .wait - 100) standingNow
+
+  abbrev pub stood : Stood
+  stood = record { standing = standingNow; triggers = standingTriggers; sounds = standingSounds }

@@ -1,0 +1,3 @@
+pub mod Written
+pub mod U16
+pub mod Tests

@@ -1,0 +1,33 @@
+-- What a test of ranges says: `simp (and-iff, leb-iff, either-iff)` turns a chain of them into its facts and back.
+-- By cases on the Bools. Assumes nothing.
+use Prim.Native.Nat.{ℕ, _≤_}
+use mathlib.Core.Path.{_≡_, refl}
+use mathlib.Core.Bool.{Bool, true, false, _&&_, _||_, false≢true, or-true}
+use mathlib.Core.Logic.{_⊎_, inl, inr, ⊎-elim, _↔_}
+use borrow.Author.Tests.{leb-true, le-leb, eqb-true, eq-eqb}
+use lib.Dec.{leb, eqb}
+
+and-both : (a b : Bool) → (a && b) ≡ true → (a ≡ true) × (b ≡ true)
+and-both true b h = (refl, h)
+and-both false b h = absurd (false≢true h)
+
+both-and : (a b : Bool) → (a ≡ true) × (b ≡ true) → (a && b) ≡ true
+both-and true b h = h .1
+both-and false b h = absurd (false≢true (h .0))
+
+pub and-iff : (a b : Bool) → ((a && b) ≡ true) ↔ ((a ≡ true) × (b ≡ true))
+and-iff a b = (and-both a b, both-and a b)
+
+pub leb-iff : (a b : ℕ) → (leb a b ≡ true) ↔ (a ≤ b)
+leb-iff a b = (leb-true a b, le-leb a b)
+
+or-either : (a b : Bool) → (a || b) ≡ true → (a ≡ true) ⊎ (b ≡ true)
+or-either true b h = inl refl
+or-either false b h = inr h
+
+-- a number that is one of two
+pub either-iff : (x a b : ℕ) → ((eqb x a || eqb x b) ≡ true) ↔ ((x ≡ a) ⊎ (x ≡ b))
+either-iff x a b = (
+  λ h. ⊎-elim (λ e. inl (eqb-true x a e)) (λ e. inr (eqb-true x b e)) (or-either (eqb x a) (eqb x b) h),
+  ⊎-elim (λ e. rw (eq-eqb x a e)) (λ e. rw (eq-eqb x b e) (or-true (eqb x a))),
+)

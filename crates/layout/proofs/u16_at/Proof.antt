@@ -1,0 +1,50 @@
+use mathlib.Core.Path.{sym}
+use native.Mathlib.Nat.{add-assoc}
+use native.Mathlib.Omega.{arith}
+use Rattle.layout.proofs.U16.{u16At-past}
+use Rattle.layout.specs.Layout.{u16At}
+use borrow.Author.Needs.{needs}
+use Rattle.layout.proofs.u16_at.Statement.{statement}
+use Rattle.layout.proofs.u16_at.Tie as tie
+
+returns : tie.Need-returns
+returns c = sym (u16At-past _ _ (omega arith))
+
+byte-at-requires : tie.Need-byte-at-requires
+byte-at-requires c κs = search needs
+
+add-byte-at : tie.Need-add-byte-at
+add-byte-at c = search needs
+
+byte-at-requires-2 : tie.Need-byte-at-requires-2
+byte-at-requires-2 c κs = search needs
+
+cast-result : tie.Need-cast-result
+cast-result c = search needs
+
+cast-result-2 : tie.Need-cast-result-2
+cast-result-2 c = search needs
+
+mul-result : tie.Need-mul-result
+mul-result c = search needs
+
+add-result : tie.Need-add-result
+add-result c = search needs
+
+returns-2 : tie.Need-returns-2
+unfolding u16At
+returns-2 c = rw (add-assoc, ← c .before .byte-at .ensures, ← c .byte-at2 .ensures)
+
+pub u16-at-spec : {M : Type 1} → statement M
+u16-at-spec =
+    tie.close
+    (tie.spec
+    returns
+    byte-at-requires
+    add-byte-at
+    byte-at-requires-2
+    cast-result
+    cast-result-2
+    mul-result
+    add-result
+    returns-2)

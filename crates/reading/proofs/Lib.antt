@@ -1,0 +1,4 @@
+pub mod Number
+pub mod Patterns
+pub mod Rounding
+pub mod Bounds

@@ -1,0 +1,21 @@
+use borrow.Author.Needs.{needs}
+use Rattle.reading.specs.Pressure.{pressureBand}
+use Rattle.reading.proofs.pressure_band.Statement.{statement}
+use Rattle.reading.proofs.pressure_band.Tie as tie
+
+enum-known-p : tie.Need-enum-known-p
+enum-known-p c = search needs
+
+enum-told : tie.Need-enum-told
+enum-told c = search needs
+
+returns : tie.Need-returns
+unfolding pressureBand
+returns c = search needs
+
+returns-2 : tie.Need-returns-2
+unfolding pressureBand
+returns-2 c = search needs
+
+pub pressure-band-spec : {M : Type 1} → statement M
+pressure-band-spec = tie.close (tie.spec enum-known-p enum-told returns returns-2)

@@ -1,0 +1,4 @@
+pub mod Number
+pub mod Bits
+pub mod Speed
+pub mod Pressure

@@ -1,0 +1,11 @@
+use Rattle.record.specs.Flags.{keysOf, pressed, flagOn}
+use mathlib.Core.Path.{refl}
+use Rattle.record.proofs.keys_of.Statement.{statement}
+use Rattle.record.proofs.keys_of.Tie as tie
+
+returns : tie.Need-returns
+unfolding keysOf pressed flagOn
+returns c = refl
+
+pub keys-of-spec : {M : Type 1} → statement M
+keys-of-spec = tie.close (tie.spec returns)

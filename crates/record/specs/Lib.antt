@@ -1,0 +1,5 @@
+pub mod Codes
+pub mod Modes
+pub mod Flags
+pub mod Record
+pub mod Sample

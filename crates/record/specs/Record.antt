@@ -1,0 +1,63 @@
+-- The record: its ranges, as facts and as the test that the code makes, and its 8 bytes.
+use Prim.Native.Nat.{ℕ, _+_, _≤_}
+use mathlib.Core.Bool.{Bool, cond, _&&_}
+use mathlib.Core.List.{List, [], _∷_, _++_}
+use lib.Dec.{leb}
+use lib.ListN.{length, getD}
+use Rattle.reading.specs.Speed.{topSpeed}
+use Rattle.layout.specs.Layout.{u16At, u16Bytes, written}
+use Rattle.record.specs.declared.Record.{Record}
+use Rattle.record.specs.Codes.{clear}
+use Rattle.record.specs.Modes.{pos, zav}
+use Rattle.record.specs.Flags.{allFlags}
+
+-- lever and sense of motion: 0 none, 1 forward, 2 reverse
+abbrev pub reverse : ℕ
+reverse = 2
+
+abbrev pub topBand : ℕ
+topBand = 2
+
+pub record RecordRanges (r : Record) : Type 0 where
+  pub v-most : r .v ≤ topSpeed
+  pub code-most : r .code ≤ clear
+  pub mode-least : pos ≤ r .mode
+  pub mode-most : r .mode ≤ zav
+  pub lever-most : r .lever ≤ reverse
+  pub flags-most : r .flags ≤ allFlags
+  pub band-most : r .band ≤ topBand
+  pub sense-most : r .sense ≤ reverse
+
+unfoldable pub recordInRange : Record → Bool
+recordInRange r =
+    leb (r .v) topSpeed
+    && leb (r .code) clear
+    && leb pos (r .mode)
+    && leb (r .mode) zav
+    && leb (r .lever) reverse
+    && leb (r .flags) allFlags
+    && leb (r .band) topBand
+    && leb (r .sense) reverse
+
+-- how many bytes a record takes
+abbrev pub recordWidth : ℕ
+recordWidth = 8
+
+abbrev pub recordBytes : Record → List ℕ
+recordBytes r = u16Bytes (r .v) ++ (r .code ∷ r .mode ∷ r .lever ∷ r .flags ∷ r .band ∷ r .sense ∷ [])
+
+unfoldable pub recordAt : List ℕ → ℕ → Record
+recordAt bytes at =
+    record {
+      v = u16At bytes at;
+      code = getD bytes (at + 2) 0;
+      mode = getD bytes (at + 3) 0;
+      lever = getD bytes (at + 4) 0;
+      flags = getD bytes (at + 5) 0;
+      band = getD bytes (at + 6) 0;
+      sense = getD bytes (at + 7) 0;
+    }
+
+-- where the bytes do not fit, nothing is written
+unfoldable pub putRecord : List ℕ → ℕ → Record → List ℕ
+putRecord bytes at r = cond (leb (at + recordWidth) (length bytes)) (written bytes at (recordBytes r)) bytes

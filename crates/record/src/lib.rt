@@ -1,0 +1,209 @@
+// What the cab delivers: a sample, the record that a tick goes by, and its 8 bytes.
+ghost use mathlib.Core.Path.{_≡_};
+ghost use Rattle.record.specs.Flags.{keysOf};
+ghost use Rattle.record.specs.Record.{recordInRange, recordAt, putRecord};
+ghost use Rattle.record.specs.Sample.{firstRefusal, recordRefusal, sampleRefusal, sampleRecord};
+use layout::byte_at;
+use layout::u16_at;
+use reading::TOP_SPEED;
+use reading::pressure_band;
+use reading::pressure_of;
+use reading::pressure_refusal;
+use reading::speed_of;
+use reading::speed_refusal;
+use reading::speed_value;
+
+// What the cab delivers at a tick: two floats and the switches.
+pub struct Sample {
+    // in m/s
+    pub speed: f32,
+    // in bar
+    pub pressure: f32,
+    pub code: u8,
+    pub mode: u8,
+    pub lever: u8,
+    pub flags: u8,
+    pub sense: u8,
+}
+
+// What a tick goes by, and what the journal keeps of it.
+pub struct Record {
+    // in tenths of km/h
+    pub v: u16,
+    pub code: u8,
+    // the mode that is asked for
+    pub mode: u8,
+    pub lever: u8,
+    pub flags: u8,
+    // of the pressure
+    pub band: u8,
+    // of motion
+    pub sense: u8,
+}
+
+// A sample as it was taken: the number of its refusal, 0 where there is none, and its record.
+pub struct Taken {
+    pub refusal: u8,
+    pub record: Record,
+}
+
+// The codes.
+pub const NONE: u8 = 0;
+
+pub const STOP: u8 = 1;
+
+pub const WARNING: u8 = 2;
+
+pub const FORTY: u8 = 3;
+
+pub const CLEAR: u8 = 4;
+
+// The modes.
+pub const POS: u8 = 1;
+
+pub const PRE: u8 = 2;
+
+pub const VYL: u8 = 3;
+
+pub const ZAV: u8 = 4;
+
+// The last of the lever's places and of the senses of motion.
+const REVERSE: u8 = 2;
+
+// The weights of the flag bits.
+pub const VIGILANCE: u8 = 1;
+
+pub const PLUS: u8 = 2;
+
+pub const MAN: u8 = 4;
+
+pub const BRAKE: u8 = 8;
+
+pub const REMOTE: u8 = 16;
+
+pub const LOSS: u8 = 32;
+
+pub const CAB: u8 = 64;
+
+const ALL_FLAGS: u8 = VIGILANCE + PLUS + MAN + BRAKE + REMOTE + LOSS + CAB;
+
+// What the driver and the cab do at a tick: the presses of the three buttons, then the switches.
+pub struct Keys {
+    pub vigilance: bool,
+    pub plus: bool,
+    pub man: bool,
+    // the direct brake
+    pub brake: bool,
+    // remote stop
+    pub remote: bool,
+    // adhesion loss
+    pub loss: bool,
+    pub cab: bool,
+}
+
+// `buttons` are those of the tick before.
+pub fn keys_of(flags: u8, buttons: u8) -> Keys
+    ensures { λ k. ⌜ k ≡ keysOf flags buttons ⌝ }
+{
+    Keys {
+        vigilance: (flags / VIGILANCE % 2 == 1) & !(buttons / VIGILANCE % 2 == 1),
+        plus: (flags / PLUS % 2 == 1) & !(buttons / PLUS % 2 == 1),
+        man: (flags / MAN % 2 == 1) & !(buttons / MAN % 2 == 1),
+        brake: flags / BRAKE % 2 == 1,
+        remote: flags / REMOTE % 2 == 1,
+        loss: flags / LOSS % 2 == 1,
+        cab: flags / CAB % 2 == 1,
+    }
+}
+
+// The highest band.
+const TOP_BAND: u8 = 2;
+
+pub fn record_in_range(r: Record) -> bool
+    ensures { λ b. ⌜ b ≡ recordInRange r ⌝ }
+{
+    (r.v <= TOP_SPEED)
+        & (r.code <= CLEAR)
+        & (POS <= r.mode)
+        & (r.mode <= ZAV)
+        & (r.lever <= REVERSE)
+        & (r.flags <= ALL_FLAGS)
+        & (r.band <= TOP_BAND)
+        & (r.sense <= REVERSE)
+}
+
+// The first of two numbers of refusal, where 0 is none.
+fn first_refusal(first: u8, second: u8) -> u8
+    ensures { λ r. ⌜ r ≡ firstRefusal first second ⌝ }
+{
+    if first == 0 { second } else { first }
+}
+
+fn record_refusal(r: Record) -> u8
+    ensures { λ n. ⌜ n ≡ recordRefusal r ⌝ }
+{
+    if record_in_range(r) { 0 } else { 3 }
+}
+
+pub fn take_sample(s: Sample) -> Taken
+    ensures { λ r. ⌜ (r .refusal ≡ sampleRefusal s) × (r .record ≡ sampleRecord s) ⌝ }
+{
+    let speed = speed_of(s.speed);
+    let pressure = pressure_of(s.pressure);
+    let taken = Record {
+        v: speed_value(speed),
+        code: s.code,
+        mode: s.mode,
+        lever: s.lever,
+        flags: s.flags,
+        band: pressure_band(pressure),
+        sense: s.sense,
+    };
+    let first = speed_refusal(speed);
+    let second = pressure_refusal(pressure);
+    let third = record_refusal(taken);
+    Taken {
+        refusal: first_refusal(first, first_refusal(second, third)),
+        record: taken,
+    }
+}
+
+// How many bytes a record takes.
+pub const RECORD_WIDTH: usize = 8;
+
+// The record in the 8 bytes from `at`.
+pub fn record_at(bytes: &[u8], at: usize) -> Record
+    ensures { λ r. ⌜ r ≡ recordAt (now (bytes .entry)) at ⌝ }
+{
+    Record {
+        v: u16_at(bytes, at, 0),
+        code: byte_at(bytes, at, 2),
+        mode: byte_at(bytes, at, 3),
+        lever: byte_at(bytes, at, 4),
+        flags: byte_at(bytes, at, 5),
+        band: byte_at(bytes, at, 6),
+        sense: byte_at(bytes, at, 7),
+    }
+}
+
+// Writes the record's 8 bytes from `at`; where they do not fit, nothing.
+pub fn put_record(bytes: &mut [u8], at: usize, r: Record)
+    ensures { λ _. ⌜ now (bytes .exit) ≡ putRecord (now (bytes .entry)) at r ⌝ }
+{
+    // at + 8 may not fit a usize
+    if bytes.len() < RECORD_WIDTH {
+        return;
+    }
+    if bytes.len() - RECORD_WIDTH < at {
+        return;
+    }
+    let v = r.v;
+    bytes[at] = (v % 256) as u8;
+    bytes[at + 1] = (v / 256 % 256) as u8;
+    bytes[at + 2] = r.code;
+    bytes[at + 3] = r.mode;
+    bytes[at + 4] = r.lever;
+    bytes[at + 5] = r.flags;
+    bytes[at + 6] = r.band;
+    bytes[at + 7] = r.sense;
+}

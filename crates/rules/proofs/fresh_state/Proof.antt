@@ -1,0 +1,12 @@
+use borrow.Author.Needs.{needs}
+use Rattle.rules.proofs.fresh_state.Statement.{statement}
+use Rattle.rules.proofs.fresh_state.Tie as tie
+
+no-signal-requires : tie.Need-no-signal-requires
+no-signal-requires c κs = search needs
+
+returns : tie.Need-returns
+returns c = simp (← c .no-signal .ensures .0)
+
+pub fresh-state-spec : {M : Type 1} → statement M
+fresh-state-spec = tie.close (tie.spec no-signal-requires returns)

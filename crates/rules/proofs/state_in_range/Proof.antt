@@ -1,0 +1,22 @@
+use Rattle.rules.specs.State.{stateInRange}
+use borrow.Author.Needs.{needs}
+use Rattle.rules.proofs.state_in_range.Statement.{statement}
+use Rattle.rules.proofs.state_in_range.Tie as tie
+
+signal-in-range-requires : tie.Need-signal-in-range-requires
+signal-in-range-requires c κs = search needs
+
+once-in-range-requires : tie.Need-once-in-range-requires
+once-in-range-requires c κs = search needs
+
+watch-in-range-requires : tie.Need-watch-in-range-requires
+watch-in-range-requires c κs = search needs
+
+returns : tie.Need-returns
+unfolding stateInRange
+returns c = simp (← c .before .before .before .watch-in-range .ensures, ← c .before .before .before .before .once-in-range .ensures, ← c .before .before .before .before .before .signal-in-range .ensures)
+
+pub state-in-range-spec : {M : Type 1} → statement M
+state-in-range-spec =
+    tie.close
+    (tie.spec signal-in-range-requires once-in-range-requires watch-in-range-requires returns)

@@ -1,0 +1,5 @@
+pub mod State
+pub mod Mode
+pub mod Permitted
+pub mod Tick
+pub mod After

@@ -1,0 +1,17 @@
+-- Step 6: the permitted speed P.
+use Prim.Native.Nat.{ℕ, min}
+use mathlib.Core.Bool.{cond}
+use lib.Dec.{eqb}
+use Rattle.card.specs.declared.Card.{Card}
+use Rattle.record.specs.Modes.{pos, pre, vyl}
+
+unfoldable pub ceiling : Card → ℕ → ℕ
+ceiling card mode = cond (eqb mode pos) (card .pos) (cond (eqb mode pre) 1600 (cond (eqb mode vyl) 1200 (card .zav)))
+
+abbrev pub leastOf : Card → ℕ → ℕ
+leastOf card mode = min (min (card .design) (ceiling card mode)) (min (card .set) (card .highest))
+
+-- the least of design, mode ceiling, set, highest and, in PRE, signal speed
+unfoldable pub permitted : Card → ℕ → ℕ → ℕ
+permitted card mode speed =
+    cond (eqb mode pre) (min (leastOf card mode) speed) (leastOf card mode)

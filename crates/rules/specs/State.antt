@@ -1,0 +1,57 @@
+-- What the desk holds but card and n: a fresh one, and its ranges, as facts and as the test that the code makes.
+use Prim.Native.Nat.{ℕ, _≤_}
+use mathlib.Core.Bool.{Bool, _&&_}
+use lib.Dec.{leb}
+use Rattle.card.specs.Card.{longWait}
+use Rattle.record.specs.Modes.{pos, zav}
+use Rattle.signal.specs.declared.Signal.{Signal}
+use Rattle.signal.specs.NewCode.{noCurve}
+use Rattle.signal.specs.Ranges.{SignalRanges, signalInRange}
+use Rattle.vigilance.specs.declared.Watch.{Watch}
+use Rattle.vigilance.specs.declared.Once.{Once}
+use Rattle.vigilance.specs.Ranges.{WatchRanges, OnceRanges, watchInRange, onceInRange}
+use Rattle.causes.specs.Held.{allHeld}
+use Rattle.causes.specs.Direction.{farthest}
+use Rattle.rules.specs.declared.State.{State}
+
+-- all three buttons
+abbrev pub allButtons : ℕ
+allButtons = 7
+
+abbrev pub noSignal : Signal
+noSignal = record { codes = record { last = 0; before = 0; gap = 0; raise = 0 }; curve = noCurve; man = 0 }
+
+abbrev pub noOnce : Once
+noOnce = record { ticks = 0; kind = 0 }
+
+abbrev pub noWatch : Watch
+noWatch = record { kind = 0; ticks = 0 }
+
+-- mode 1, all else 0
+abbrev pub fresh : State
+fresh = record {
+  mode = pos;
+  buttons = 0;
+  signal = noSignal;
+  once = noOnce;
+  watch = noWatch;
+  wrongway = 0;
+  standing = 0;
+  causes = 0;
+}
+
+pub record StateRanges (s : State) : Type 0 where
+  pub mode-least : pos ≤ s .mode
+  pub mode-most : s .mode ≤ zav
+  pub buttons-most : s .buttons ≤ allButtons
+  pub signal : SignalRanges (s .signal)
+  pub once : OnceRanges (s .once)
+  pub watch : WatchRanges (s .watch)
+  pub wrongway-most : s .wrongway ≤ farthest
+  pub standing-most : s .standing ≤ longWait
+  pub causes-most : s .causes ≤ allHeld
+
+unfoldable pub stateInRange : State → Bool
+stateInRange s =
+    leb pos (s .mode) && leb (s .mode) zav && leb (s .buttons) allButtons && signalInRange (s .signal) && onceInRange (s .once)
+    && watchInRange (s .watch) && leb (s .wrongway) farthest && leb (s .standing) longWait && leb (s .causes) allHeld

@@ -1,0 +1,325 @@
+// One whole tick: the state that the desk holds, the ten steps in their order, and the answer.
+ghost use mathlib.Core.Path.{_≡_};
+ghost use Prim.Native.Nat.{_≤_};
+ghost use Rattle.card.specs.Card.{CardRanges};
+ghost use Rattle.reading.specs.Speed.{topSpeed};
+ghost use Rattle.record.specs.Modes.{pos, zav};
+ghost use Rattle.record.specs.Record.{RecordRanges};
+ghost use Rattle.signal.specs.Ranges.{SignalRanges, AspectRanges};
+ghost use Rattle.causes.specs.Held.{allHeld};
+ghost use Rattle.rules.specs.State.{fresh, noSignal, StateRanges, stateInRange};
+ghost use Rattle.rules.specs.Mode.{modeNow, entered};
+ghost use Rattle.rules.specs.Permitted.{ceiling, permitted};
+ghost use Rattle.rules.specs.Tick.{keysIn, aspectIn, found, FindingsRanges, triggered, heldNext, wrongwayNext, stateNext, marks, answer, ticked, advance};
+use card::Card;
+use causes::Causes;
+use causes::Moved;
+use causes::Stood;
+use record::Keys;
+use record::Record;
+use signal::Aspect;
+use signal::Codes;
+use signal::Curve;
+use signal::Signal;
+use vigilance::Cyclic;
+use vigilance::Once;
+use vigilance::OneTime;
+use vigilance::Watch;
+
+// All that the desk holds but its card and n.
+pub struct State {
+    pub mode: u8,
+    // the three buttons of the last tick: vigilance, PLUS, MAN
+    pub buttons: u8,
+    pub signal: Signal,
+    pub once: Once,
+    pub watch: Watch,
+    // d, the distance driven the wrong way
+    pub wrongway: u16,
+    // h, the ticks that the train has stood unbraked
+    pub standing: u16,
+    pub causes: u8,
+}
+
+// What steps 2 to 9 find.
+pub struct Findings {
+    pub keys: Keys,
+    pub aspect: Aspect,
+    // P
+    pub permitted: u16,
+    pub cyclic: Cyclic,
+    pub once: OneTime,
+    pub moved: Moved,
+    pub stood: Stood,
+}
+
+// What the desk shows after a tick.
+pub struct Answer {
+    // P
+    pub permitted: u16,
+    // T
+    pub target: u16,
+    pub marks: u8,
+    pub causes: u8,
+    pub lowest: u8,
+    pub held: u8,
+}
+
+pub struct Advanced {
+    pub state: State,
+    pub answer: Answer,
+}
+
+// All three buttons.
+const ALL_BUTTONS: u8 = 7;
+
+pub fn fresh_state() -> State
+    ensures { λ s. ⌜ s ≡ fresh ⌝ }
+{
+    State {
+        mode: record::POS,
+        buttons: 0,
+        signal: no_signal(),
+        once: Once { ticks: 0, kind: 0 },
+        watch: Watch { kind: 0, ticks: 0 },
+        wrongway: 0,
+        standing: 0,
+        causes: 0,
+    }
+}
+
+pub fn state_in_range(s: State) -> bool
+    ensures { λ x. ⌜ x ≡ stateInRange s ⌝ }
+{
+    (record::POS <= s.mode)
+        & (s.mode <= record::ZAV)
+        & (s.buttons <= ALL_BUTTONS)
+        & signal::signal_in_range(s.signal)
+        & vigilance::once_in_range(s.once)
+        & vigilance::watch_in_range(s.watch)
+        & (s.wrongway <= causes::FARTHEST)
+        & (s.standing <= card::LONG_WAIT)
+        & (s.causes <= causes::ALL_HELD)
+}
+
+fn no_signal() -> Signal
+    ensures { λ s. ⌜ (s ≡ noSignal) × SignalRanges s ⌝ }
+{
+    Signal {
+        codes: Codes {
+            last: 0,
+            before: 0,
+            gap: 0,
+            raise: 0,
+        },
+        curve: Curve {
+            start: 0,
+            age: 0,
+            given: 0,
+        },
+        man: 0,
+    }
+}
+
+fn mode_now(s: State, r: Record) -> u8
+    requires { ⌜ StateRanges s × RecordRanges r ⌝ }
+    ensures { λ m. ⌜ (m ≡ modeNow s r) × ((pos ≤ m) × (m ≤ zav)) ⌝ }
+{
+    if r.v == 0 {
+        return r.mode;
+    }
+    s.mode
+}
+
+// Step 1.
+fn entered(s: State, r: Record) -> State
+    requires { ⌜ StateRanges s × RecordRanges r ⌝ }
+    ensures { λ x. ⌜ (x ≡ entered s r) × StateRanges x ⌝ }
+{
+    let mode = mode_now(s, r);
+    let none = no_signal();
+    let quiet = Once { ticks: 0, kind: 0 };
+    let mut x = s;
+    x.mode = mode;
+    if mode == s.mode {
+        if mode == record::PRE {
+            return x;
+        }
+        x.signal = none;
+        x.once = quiet;
+        return x;
+    }
+    x.signal = none;
+    x.once = quiet;
+    let unwatched = Watch { kind: 0, ticks: 0 };
+    x.watch = unwatched;
+    x.wrongway = 0;
+    x.standing = 0;
+    x
+}
+
+// Steps 2 to 6, in PRE alone.
+fn aspect_in(card: Card, s: State, r: Record, k: Keys) -> Aspect
+    requires { ⌜ CardRanges card × StateRanges s × RecordRanges r × (k ≡ keysIn card s r) ⌝ }
+    ensures { λ x. ⌜ (x ≡ aspectIn card s r) × AspectRanges x ⌝ }
+{
+    let signal = s.signal;
+    if s.mode == record::PRE {
+        return signal::aspect_now(card, signal, r, k);
+    }
+    Aspect {
+        signal: signal,
+        target: 0,
+        begins: false,
+        speed: 0,
+    }
+}
+
+fn ceiling(card: Card, mode: u8) -> u16
+    requires { ⌜ CardRanges card ⌝ }
+    ensures { λ x. ⌜ (x ≡ ceiling card mode) × (x ≤ topSpeed) ⌝ }
+{
+    if mode == record::POS {
+        return card.pos;
+    }
+    if mode == record::PRE {
+        return 1600;
+    }
+    if mode == record::VYL {
+        return 1200;
+    }
+    card.zav
+}
+
+// Step 6: P.
+fn permitted(card: Card, mode: u8, speed: u16) -> u16
+    requires { ⌜ CardRanges card ⌝ }
+    ensures { λ x. ⌜ (x ≡ permitted card mode speed) × (x ≤ topSpeed) ⌝ }
+{
+    let first = numbers::lesser(card.design, ceiling(card, mode));
+    let least = numbers::lesser(first, numbers::lesser(card.set, card.highest));
+    if mode == record::PRE {
+        return numbers::lesser(least, speed);
+    }
+    least
+}
+
+// Steps 2 to 9.
+fn found(card: Card, s: State, r: Record) -> Findings
+    requires { ⌜ CardRanges card × StateRanges s × RecordRanges r ⌝ }
+    ensures { λ x. ⌜ (x ≡ found card s r) × FindingsRanges x ⌝ }
+{
+    let keys = record::keys_of(r.flags, s.buttons);
+    let aspect = aspect_in(card, s, r, keys);
+    let permitted = permitted(card, s.mode, aspect.speed);
+    let signal = aspect.signal;
+    let kind = vigilance::watch_kind(s.mode, signal, r, keys);
+    let watch = s.watch;
+    let cyclic = vigilance::watched(card, kind, watch, keys);
+    let curve = aspect.signal.curve;
+    let once = s.once;
+    let asked = vigilance::asked(card, curve, aspect.begins, aspect.target, r.v, keys, once);
+    let moved = causes::driven(s.mode, r, keys, s.wrongway);
+    let stood = causes::parked(card, s.mode, r, keys, s.causes / 16 % 2 == 1, s.standing);
+    Findings {
+        keys: keys,
+        aspect: aspect,
+        permitted: permitted,
+        cyclic: cyclic,
+        once: asked,
+        moved: moved,
+        stood: stood,
+    }
+}
+
+// Step 9: the triggers.
+fn triggered(card: Card, s: State, r: Record, f: Findings) -> Causes
+    requires { ⌜ CardRanges card × FindingsRanges f ⌝ }
+    ensures { λ x. ⌜ x ≡ triggered card s r f ⌝ }
+{
+    Causes {
+        nz1: f.cyclic.lapses | f.once.lapses,
+        nz2: f.permitted + card.tolerance < r.v,
+        nz3: f.moved.triggers,
+        nz4: ((s.mode == record::PRE) | (s.mode == record::VYL)) & f.keys.remote,
+        nz5: f.stood.triggers,
+    }
+}
+
+// Step 10, and the state that the next tick starts from.
+fn state_next(card: Card, s: State, r: Record, f: Findings) -> State
+    requires { ⌜ CardRanges card × StateRanges s × FindingsRanges f ⌝ }
+    ensures { λ x. ⌜ (x ≡ stateNext card s r f) × StateRanges x ⌝ }
+{
+    let held = causes::held_in(s.causes);
+    let triggered = triggered(card, s, r, f);
+    let keys = f.keys;
+    let released = causes::released(f.permitted, r, keys);
+    let kept = causes::kept(held, triggered, released);
+    let wrongway = causes::wrongway_left(f.moved.wrongway, held, triggered, released);
+    let mask = causes::mask_of(kept);
+    let codes = f.aspect.signal.codes;
+    let once = f.once.once;
+    let watch = f.cyclic.watch;
+    State {
+        mode: s.mode,
+        buttons: r.flags % 8,
+        signal: Signal {
+            codes: codes,
+            curve: Curve {
+                start: f.aspect.signal.curve.start,
+                age: f.aspect.signal.curve.age,
+                given: f.once.given,
+            },
+            man: f.aspect.signal.man,
+        },
+        once: once,
+        watch: watch,
+        wrongway: wrongway,
+        standing: f.stood.standing,
+        causes: mask,
+    }
+}
+
+fn marks(f: Findings) -> u8
+    ensures { λ x. ⌜ x ≡ marks f ⌝ }
+{
+    numbers::weight(0 < f.aspect.signal.man, 1)
+        + numbers::weight(0 < f.aspect.signal.curve.start, 2)
+        + numbers::weight(f.cyclic.prompts, 4)
+        + numbers::weight(0 < f.once.once.ticks, 8)
+        + numbers::weight(0 < f.once.once.kind, 16)
+        + numbers::weight(f.stood.sounds, 32)
+}
+
+fn answer_of(f: Findings, causes: u8) -> Answer
+    requires { ⌜ causes ≤ allHeld ⌝ }
+    ensures { λ x. ⌜ x ≡ answer f causes ⌝ }
+{
+    let marks = marks(f);
+    let lowest = causes::lowest(causes);
+    let held = causes::how_many(causes);
+    Answer {
+        permitted: f.permitted,
+        target: f.aspect.target,
+        marks: marks,
+        causes: causes,
+        lowest: lowest,
+        held: held,
+    }
+}
+
+// One tick: the new state and the answer.
+pub fn advance(card: Card, state: State, r: Record) -> Advanced
+    requires { ⌜ CardRanges card × StateRanges state × RecordRanges r ⌝ }
+    ensures { λ x. ⌜ (x ≡ advance card state r) × StateRanges (x .state) ⌝ }
+{
+    let s = entered(state, r);
+    let f = found(card, s, r);
+    let next = state_next(card, s, r, f);
+    let answer = answer_of(f, next.causes);
+    Advanced {
+        state: next,
+        answer: answer,
+    }
+}

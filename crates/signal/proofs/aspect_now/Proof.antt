@@ -1,0 +1,74 @@
+use mathlib.Core.Path.{ap}
+use Rattle.signal.specs.declared.Turn.{Turn}
+use Rattle.signal.specs.declared.Aging.{Aging}
+use Rattle.signal.specs.Aspect.{aspectNow}
+use native.Mathlib.Omega.{arith}
+use borrow.Author.Needs.{needs}
+use Rattle.signal.proofs.aspect_now.Statement.{statement}
+use Rattle.signal.proofs.aspect_now.Tie as tie
+
+turned-requires : tie.Need-turned-requires
+turned-requires c κs = search needs
+
+before-next-requires : tie.Need-before-next-requires
+before-next-requires c κs = search needs
+
+gap-next-requires : tie.Need-gap-next-requires
+gap-next-requires c κs = search needs
+
+raise-next-requires : tie.Need-raise-next-requires
+raise-next-requires c κs = search needs
+
+target-requires : tie.Need-target-requires
+target-requires c κs = search needs
+
+man-lowered-requires : tie.Need-man-lowered-requires
+man-lowered-requires c κs = search needs
+
+aged-requires : tie.Need-aged-requires
+aged-requires c κs = search needs
+
+man-started-requires : tie.Need-man-started-requires
+man-started-requires c κs = omega (arith, c .before .before .before .before .before .before .before .before .before .pre)
+
+signal-speed-requires : tie.Need-signal-speed-requires
+signal-speed-requires c κs = search needs
+
+returns : tie.Need-returns
+unfolding aspectNow
+returns c =
+    let aging = c .before .before .before .aged .ensures .0 in
+    let starts = ap (λ (x : Aging). x .starts) aging in
+    let curve = ap (λ (x : Aging). x .curve) aging in
+    let c4 = c .before .before .before .before in
+    let c7 = c4 .before .before .before in
+    let turn = c7 .before .before .before .before .turned .ensures .0 in
+    let man = ap (λ (x : Turn). x .man) turn in
+    let course = ap (λ (x : Turn). x .curve) turn in
+    let begins = ap (λ (x : Turn). x .begins) turn in (
+      simp (← c .signal-speed .ensures .0, ← c .before .before .man-started .ensures .0, ← starts, ← curve, ← c4 .man-lowered .ensures .0, ← c7 .target .ensures .0, ← c7 .before .raise-next .ensures .0, ← c7 .before .before .gap-next .ensures .0, ← c7 .before .before .before .before-next .ensures .0, ← man, ← course, ← begins),
+      record {
+        signal = record {
+          codes = omega (arith, c7 .before .before .before .before .before .pre);
+          curve = c .before .before .before .aged .ensures .1;
+          man-most = c .before .before .man-started .ensures .1;
+        };
+        target-most = c7 .target .ensures .1;
+        speed-most = c .signal-speed .ensures .1;
+      },
+    )
+
+pub aspect-now-spec : {M : Type 1} → statement M
+aspect-now-spec =
+    tie.close
+    (tie.spec
+    turned-requires
+    before-next-requires
+    gap-next-requires
+    raise-next-requires
+    target-requires
+    man-lowered-requires
+    aged-requires
+    man-started-requires
+    signal-speed-requires
+    returns)

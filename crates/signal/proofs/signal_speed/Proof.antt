@@ -1,0 +1,23 @@
+use Rattle.signal.specs.Speed.{signalSpeed}
+use borrow.Author.Tests.{le-ltb, lt-ltb}
+use borrow.Author.Needs.{needs}
+use Rattle.signal.proofs.signal_speed.Statement.{statement}
+use Rattle.signal.proofs.signal_speed.Tie as tie
+
+returns : tie.Need-returns
+unfolding signalSpeed
+returns c = (simp (lt-ltb _ _ (c .if1 .taken)), search needs)
+
+curve-value-requires : tie.Need-curve-value-requires
+curve-value-requires c κs = search needs
+
+returns-2 : tie.Need-returns-2
+unfolding signalSpeed
+returns-2 c = (simp (← c .curve-value .ensures .0, lt-ltb _ _ (c .before .if2 .taken), le-ltb _ _ (c .before .before .before .if1 .left)), search needs)
+
+returns-3 : tie.Need-returns-3
+unfolding signalSpeed
+returns-3 c = (simp (le-ltb _ _ (c .if2 .left), le-ltb _ _ (c .before .before .if1 .left)), search needs)
+
+pub signal-speed-spec : {M : Type 1} → statement M
+signal-speed-spec = tie.close (tie.spec returns curve-value-requires returns-2 returns-3)

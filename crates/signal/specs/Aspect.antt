@@ -1,0 +1,38 @@
+-- Steps 2 to 6 in PRE, put together.
+use Prim.Native.Nat.{ℕ, _≤_}
+use Rattle.card.specs.declared.Card.{Card}
+use Rattle.record.specs.declared.Record.{Record}
+use Rattle.record.specs.declared.Keys.{Keys}
+use Rattle.signal.specs.declared.Curve.{Curve}
+use Rattle.signal.specs.declared.Signal.{Signal}
+use Rattle.signal.specs.declared.Aspect.{Aspect}
+use Rattle.signal.specs.Target.{target}
+use Rattle.signal.specs.Speed.{signalSpeed}
+use Rattle.signal.specs.NewCode.{unchanged, manByCode, curveByCode, curveBegins}
+use Rattle.signal.specs.Plus.{raiseNext, codesNext}
+use Rattle.signal.specs.Man.{manLowered}
+use Rattle.signal.specs.Curve.{manStarts, curveAged, manStarted}
+
+module _ (card : Card) (s : Signal) (r : Record) (k : Keys) where
+  -- T, with the new raise
+  abbrev pub targetNow : ℕ
+  targetNow = target card (r .code) (raiseNext s r k)
+
+  abbrev pub curveNext : Curve
+  curveNext = curveAged card (curveByCode card s r) (curveBegins card s r) targetNow k
+
+  abbrev pub manNext : ℕ
+  manNext =
+      manStarted (manStarts card (curveByCode card s r) (curveBegins card s r) targetNow k)
+      (manLowered (s .man) (manByCode card s r) (unchanged s r) targetNow (r .v)) (r .v)
+
+  abbrev pub signalNext : Signal
+  signalNext = record { codes = codesNext s r k; curve = curveNext; man = manNext }
+
+  unfoldable pub aspectNow : Aspect
+  aspectNow = record {
+    signal = signalNext;
+    target = targetNow;
+    begins = curveBegins card s r;
+    speed = signalSpeed card curveNext manNext targetNow;
+  }

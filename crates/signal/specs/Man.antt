@@ -1,0 +1,11 @@
+-- Step 4: MAN that was on before the tick and is on still.
+use Prim.Native.Nat.{ℕ, min}
+use mathlib.Core.Bool.{Bool, _&&_, cond}
+use lib.Dec.{leb}
+use Rattle.signal.specs.Speed.{on}
+use Rattle.signal.specs.NewCode.{manFrom}
+
+-- it ends if the code is unchanged and v ≤ T; else M falls with v
+unfoldable pub manLowered : ℕ → ℕ → Bool → ℕ → ℕ → ℕ
+manLowered was now unchanged t v =
+    cond (on was && on now) (cond (unchanged && leb v t) 0 (manFrom (min now v))) now

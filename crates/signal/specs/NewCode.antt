@@ -1,0 +1,80 @@
+-- Step 2: a new code, and the gap before it.
+use Prim.Native.Nat.{ℕ, _+_, min, max}
+use mathlib.Core.Bool.{Bool, not, _&&_, cond}
+use lib.Dec.{ltb, leb, eqb}
+use Rattle.card.specs.declared.Card.{Card}
+use Rattle.record.specs.declared.Record.{Record}
+use Rattle.record.specs.Codes.{none}
+use Rattle.signal.specs.declared.Curve.{Curve}
+use Rattle.signal.specs.declared.Signal.{Signal}
+use Rattle.signal.specs.declared.Turn.{Turn}
+use Rattle.signal.specs.Ranges.{longestGap}
+use Rattle.signal.specs.Target.{target}
+use Rattle.signal.specs.Speed.{on, signalSpeed}
+
+abbrev pub noCurve : Curve
+noCurve = record { start = 0; age = 0; given = 0 }
+
+abbrev pub curveFrom : ℕ → Curve
+curveFrom speed = record { start = speed; age = 0; given = 0 }
+
+-- M where MAN begins at v
+abbrev pub manFrom : ℕ → ℕ
+manFrom v = max 1200 v
+
+abbrev pub unchanged : Signal → Record → Bool
+unchanged s r = eqb (r .code) (s .codes .last)
+
+abbrev pub newCode : Signal → Record → Bool
+newCode s r = not (unchanged s r)
+
+module _ (card : Card) (s : Signal) (r : Record) where
+  -- S0, the old signal speed
+  abbrev pub oldSpeed : ℕ
+  oldSpeed = signalSpeed card (s .curve) (s .man) (target card (s .codes .last) (s .codes .raise))
+
+  -- raise becomes 0 before the new T is taken
+  abbrev pub newTarget : ℕ
+  newTarget = target card (r .code) 0
+
+  -- if MAN is on it ends when the new T > v
+  abbrev pub manStays : Bool
+  manStays = on (s .man) && leb newTarget (r .v)
+
+  -- with MAN off or just ended it begins after a gap: the last code was 0, k is not 0, g > 50, and T is below the target of k
+  unfoldable pub gapMan : Bool
+  gapMan =
+      eqb (s .codes .last) none && not (eqb (s .codes .before) none) && ltb 50 (s .codes .gap)
+      && ltb newTarget (target card (s .codes .before) 0)
+
+  unfoldable pub manByCode : ℕ
+  manByCode = cond (newCode s r) (cond manStays (s .man) (cond gapMan (manFrom (r .v)) 0)) (s .man)
+
+  -- else a curve begins if T < S0
+  unfoldable pub curveBegins : Bool
+  curveBegins = newCode s r && not manStays && not gapMan && ltb newTarget oldSpeed
+
+  unfoldable pub curveByCode : Curve
+  curveByCode =
+      cond (newCode s r) (cond manStays (s .curve) (cond curveBegins (curveFrom oldSpeed) noCurve)) (s .curve)
+
+  abbrev pub turned : Turn
+  turned = record { man = manByCode; curve = curveByCode; begins = curveBegins }
+
+module _ (s : Signal) (r : Record) where
+  -- a change to 0 puts the old code in k and g = 1; a change from 0 ends with k = g = 0
+  unfoldable pub beforeNext : ℕ
+  beforeNext =
+      cond (newCode s r)
+      (cond (eqb (r .code) none) (s .codes .last) (cond (eqb (s .codes .last) none) 0 (s .codes .before)))
+      (s .codes .before)
+
+  -- if code 0 goes on, g grows by one, to 51 at most
+  unfoldable pub gapNext : ℕ
+  gapNext =
+      cond (newCode s r)
+      (cond (eqb (r .code) none) 1 (cond (eqb (s .codes .last) none) 0 (s .codes .gap)))
+      (cond (eqb (r .code) none) (min longestGap (s .codes .gap + 1)) (s .codes .gap))
+
+  abbrev pub raiseByCode : ℕ
+  raiseByCode = cond (newCode s r) 0 (s .codes .raise)

@@ -1,0 +1,377 @@
+// Steps 2 to 6 of a tick, in PRE: from the code on the rail to the signal speed.
+ghost use mathlib.Core.Path.{_≡_};
+ghost use mathlib.Core.Bool.{not};
+ghost use Prim.Native.Nat.{suc, _≤_, _-_, min, max};
+ghost use Rattle.card.specs.Card.{CardRanges};
+ghost use Rattle.reading.specs.Speed.{topSpeed};
+ghost use Rattle.record.specs.Codes.{clear};
+ghost use Rattle.record.specs.Record.{RecordRanges};
+ghost use Rattle.signal.specs.Ranges.{longestGap, mostRaise, oldestAge, CurveRanges, SignalRanges, TurnRanges, AspectRanges, signalInRange};
+ghost use Rattle.signal.specs.Target.{target};
+ghost use Rattle.signal.specs.Speed.{curveValue, signalSpeed};
+ghost use Rattle.signal.specs.NewCode.{gapMan, turned, beforeNext, gapNext, raiseByCode};
+ghost use Rattle.signal.specs.Plus.{raiseNext};
+ghost use Rattle.signal.specs.Man.{manLowered};
+ghost use Rattle.signal.specs.Curve.{ageNow, aged, manStarted};
+ghost use Rattle.signal.specs.Aspect.{aspectNow};
+use card::Card;
+use record::Keys;
+use record::Record;
+
+// The codes, and what came of them.
+pub struct Codes {
+    // the last code
+    pub last: u8,
+    // k, the code before a gap
+    pub before: u8,
+    // g, the gap in ticks
+    pub gap: u8,
+    pub raise: u8,
+}
+
+// The braking curve.
+pub struct Curve {
+    // V0, the speed it starts from; 0: no curve
+    pub start: u16,
+    // c, its age in ticks
+    pub age: u16,
+    // w, whether its one-time prompt was given
+    pub given: u8,
+}
+
+// What the desk holds of the signals.
+pub struct Signal {
+    pub codes: Codes,
+    pub curve: Curve,
+    // M, the speed under MAN; 0: MAN is off
+    pub man: u16,
+}
+
+// MAN and the curve as step 2 leaves them, and whether the curve begins.
+pub struct Turn {
+    pub man: u16,
+    pub curve: Curve,
+    pub begins: bool,
+}
+
+// The curve as step 5 leaves it, and whether MAN starts on it.
+pub struct Aging {
+    pub curve: Curve,
+    pub starts: bool,
+}
+
+// What steps 2 to 6 find.
+pub struct Aspect {
+    pub signal: Signal,
+    // T
+    pub target: u16,
+    pub begins: bool,
+    pub speed: u16,
+}
+
+const LONGEST_GAP: u8 = 51;
+
+const MOST_RAISE: u8 = 4;
+
+const OLDEST_AGE: u16 = 5000;
+
+// MAN never goes below this speed.
+const MAN_LEAST: u16 = 1200;
+
+pub fn signal_in_range(s: Signal) -> bool
+    ensures { λ x. ⌜ x ≡ signalInRange s ⌝ }
+{
+    (s.codes.last <= record::CLEAR)
+        & (s.codes.before <= record::CLEAR)
+        & (s.codes.gap <= LONGEST_GAP)
+        & (s.codes.raise <= MOST_RAISE)
+        & (s.curve.start <= reading::TOP_SPEED)
+        & (s.curve.age <= OLDEST_AGE)
+        & (s.curve.given <= 1)
+        & (s.man <= reading::TOP_SPEED)
+}
+
+pub fn target(card: Card, code: u8, raise: u8) -> u16
+    requires { ⌜ CardRanges card × (raise ≤ mostRaise) ⌝ }
+    ensures { λ t. ⌜ (t ≡ target card code raise) × (t ≤ topSpeed) ⌝ }
+{
+    if (code == record::NONE) | (code == record::WARNING) {
+        return 1200;
+    }
+    if code == record::STOP {
+        return card.stop;
+    }
+    if code == record::FORTY {
+        return 400 + 200 * (raise as u16);
+    }
+    1600
+}
+
+// What is left of the start once so much has fallen off.
+fn left(start: u16, fallen: u32) -> u16
+    ensures { λ x. ⌜ x ≡ start - min start fallen ⌝ }
+{
+    if start as u32 <= fallen {
+        return 0;
+    }
+    start - (fallen as u16)
+}
+
+pub fn curve_value(card: Card, curve: Curve, t: u16, age: u16) -> u16
+    ensures { λ x. ⌜ (x ≡ curveValue card curve t age) × (x ≤ max t (curve .start)) ⌝ }
+{
+    let fallen = (age as u32) * (card.deceleration as u32) / 10;
+    numbers::greater(t, left(curve.start, fallen))
+}
+
+pub fn signal_speed(card: Card, curve: Curve, man: u16, t: u16) -> u16
+    requires { ⌜ CurveRanges curve × (man ≤ topSpeed) × (t ≤ topSpeed) ⌝ }
+    ensures { λ x. ⌜ (x ≡ signalSpeed card curve man t) × (x ≤ topSpeed) ⌝ }
+{
+    if 0 < man {
+        return man;
+    }
+    if 0 < curve.start {
+        return curve_value(card, curve, t, curve.age);
+    }
+    t
+}
+
+fn gap_man(card: Card, s: Signal, r: Record) -> bool
+    requires { ⌜ CardRanges card ⌝ }
+    ensures { λ x. ⌜ x ≡ gapMan card s r ⌝ }
+{
+    let t = target(card, r.code, 0);
+    let old = target(card, s.codes.before, 0);
+    (s.codes.last == record::NONE)
+        & (s.codes.before != record::NONE)
+        & (50 < s.codes.gap)
+        & (t < old)
+}
+
+// Step 2: what the code does to MAN and the curve.
+fn turned(card: Card, s: Signal, r: Record) -> Turn
+    requires { ⌜ CardRanges card × SignalRanges s × RecordRanges r ⌝ }
+    ensures { λ x. ⌜ (x ≡ turned card s r) × TurnRanges x ⌝ }
+{
+    let curve = s.curve;
+    let none = Curve {
+        start: 0,
+        age: 0,
+        given: 0,
+    };
+    if r.code == s.codes.last {
+        return Turn {
+            man: s.man,
+            curve: curve,
+            begins: false,
+        };
+    }
+    let t = target(card, r.code, 0);
+    if (0 < s.man) & (t <= r.v) {
+        return Turn {
+            man: s.man,
+            curve: curve,
+            begins: false,
+        };
+    }
+    if gap_man(card, s, r) {
+        return Turn {
+            man: numbers::greater(MAN_LEAST, r.v),
+            curve: none,
+            begins: false,
+        };
+    }
+    let old = signal_speed(
+        card,
+        curve,
+        s.man,
+        target(card, s.codes.last, s.codes.raise),
+    );
+    if t < old {
+        return Turn {
+            man: 0,
+            curve: Curve {
+                start: old,
+                age: 0,
+                given: 0,
+            },
+            begins: true,
+        };
+    }
+    Turn {
+        man: 0,
+        curve: none,
+        begins: false,
+    }
+}
+
+// Step 2: k.
+fn before_next(s: Signal, r: Record) -> u8
+    requires { ⌜ SignalRanges s ⌝ }
+    ensures { λ x. ⌜ (x ≡ beforeNext s r) × (x ≤ clear) ⌝ }
+{
+    if r.code == s.codes.last {
+        return s.codes.before;
+    }
+    if r.code == record::NONE {
+        return s.codes.last;
+    }
+    if s.codes.last == record::NONE {
+        return 0;
+    }
+    s.codes.before
+}
+
+// Step 2: g.
+fn gap_next(s: Signal, r: Record) -> u8
+    requires { ⌜ SignalRanges s ⌝ }
+    ensures { λ x. ⌜ (x ≡ gapNext s r) × (x ≤ longestGap) ⌝ }
+{
+    if r.code == s.codes.last {
+        if r.code == record::NONE {
+            if s.codes.gap < LONGEST_GAP {
+                return s.codes.gap + 1;
+            }
+            return LONGEST_GAP;
+        }
+        return s.codes.gap;
+    }
+    if r.code == record::NONE {
+        return 1;
+    }
+    if s.codes.last == record::NONE {
+        return 0;
+    }
+    s.codes.gap
+}
+
+fn raise_by_code(s: Signal, r: Record) -> u8
+    requires { ⌜ SignalRanges s ⌝ }
+    ensures { λ x. ⌜ (x ≡ raiseByCode s r) × (x ≤ mostRaise) ⌝ }
+{
+    if r.code == s.codes.last {
+        return s.codes.raise;
+    }
+    0
+}
+
+// Step 3.
+fn raise_next(s: Signal, r: Record, k: Keys) -> u8
+    requires { ⌜ SignalRanges s ⌝ }
+    ensures { λ x. ⌜ (x ≡ raiseNext s r k) × (x ≤ mostRaise) ⌝ }
+{
+    let raise = raise_by_code(s, r);
+    if k.plus & (r.code == record::FORTY) {
+        if raise < MOST_RAISE {
+            return raise + 1;
+        }
+        return raise;
+    }
+    raise
+}
+
+// Step 4.
+fn man_lowered(was: u16, now: u16, unchanged: bool, t: u16, v: u16) -> u16
+    requires { ⌜ (now ≤ topSpeed) × (v ≤ topSpeed) ⌝ }
+    ensures { λ x. ⌜ (x ≡ manLowered was now unchanged t v) × (x ≤ topSpeed) ⌝ }
+{
+    if (0 < was) & (0 < now) {
+        if unchanged & (v <= t) {
+            return 0;
+        }
+        return numbers::greater(MAN_LEAST, numbers::lesser(now, v));
+    }
+    now
+}
+
+fn age_now(curve: Curve, begins: bool) -> u16
+    requires { ⌜ CurveRanges curve ⌝ }
+    ensures { λ x. ⌜ (x ≡ ageNow curve begins) × (x ≤ suc oldestAge) ⌝ }
+{
+    if begins {
+        return curve.age;
+    }
+    curve.age + 1
+}
+
+// Step 5.
+fn aged(card: Card, curve: Curve, begins: bool, t: u16, k: Keys) -> Aging
+    requires { ⌜ CardRanges card × CurveRanges curve ⌝ }
+    ensures { λ x. ⌜ (x ≡ aged card curve begins t k) × CurveRanges (x .curve) ⌝ }
+{
+    let none = Curve {
+        start: 0,
+        age: 0,
+        given: 0,
+    };
+    if 0 < curve.start {
+        let age = age_now(curve, begins);
+        if curve_value(card, curve, t, age) == t {
+            return Aging {
+                curve: none,
+                starts: false,
+            };
+        }
+        if k.man | k.loss {
+            return Aging {
+                curve: none,
+                starts: true,
+            };
+        }
+        return Aging {
+            curve: Curve {
+                start: curve.start,
+                age: age,
+                given: curve.given,
+            },
+            starts: false,
+        };
+    }
+    Aging {
+        curve: curve,
+        starts: false,
+    }
+}
+
+fn man_started(starts: bool, man: u16, v: u16) -> u16
+    requires { ⌜ (man ≤ topSpeed) × (v ≤ topSpeed) ⌝ }
+    ensures { λ x. ⌜ (x ≡ manStarted starts man v) × (x ≤ topSpeed) ⌝ }
+{
+    if starts {
+        return numbers::greater(MAN_LEAST, v);
+    }
+    man
+}
+
+// Steps 2 to 6.
+pub fn aspect_now(card: Card, s: Signal, r: Record, k: Keys) -> Aspect
+    requires { ⌜ CardRanges card × SignalRanges s × RecordRanges r ⌝ }
+    ensures { λ a. ⌜ (a ≡ aspectNow card s r k) × AspectRanges a ⌝ }
+{
+    let turn = turned(card, s, r);
+    let before = before_next(s, r);
+    let gap = gap_next(s, r);
+    let raise = raise_next(s, r, k);
+    let t = target(card, r.code, raise);
+    let lowered = man_lowered(s.man, turn.man, r.code == s.codes.last, t, r.v);
+    let aging = aged(card, turn.curve, turn.begins, t, k);
+    let man = man_started(aging.starts, lowered, r.v);
+    let curve = aging.curve;
+    let speed = signal_speed(card, curve, man, t);
+    Aspect {
+        signal: Signal {
+            codes: Codes {
+                last: r.code,
+                before: before,
+                gap: gap,
+                raise: raise,
+            },
+            curve: curve,
+            man: man,
+        },
+        target: t,
+        begins: turn.begins,
+        speed: speed,
+    }
+}

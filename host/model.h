@@ -1,0 +1,119 @@
+/*
+ * A plain model of the desk in C, written from the rules and not from the proved code.
+ * The tests compare the proved call with it; the benchmark takes it as the measure.
+ */
+#ifndef FOLDHARBOR_MODEL_H
+#define FOLDHARBOR_MODEL_H
+
+#include <stddef.h>
+#include <stdint.h>
+
+enum { MODE_POS = 1, MODE_PRE = 2, MODE_VYL = 3, MODE_ZAV = 4 };
+
+enum { CODE_NONE = 0, CODE_STOP = 1, CODE_WARNING = 2, CODE_FORTY = 3, CODE_CLEAR = 4 };
+
+enum { /* bits of a record's flags; the lowest three are the buttons */
+    FLAG_VIGILANCE = 1 << 0,
+    FLAG_PLUS = 1 << 1,
+    FLAG_MAN = 1 << 2,
+    FLAG_DIRECT_BRAKE = 1 << 3,
+    FLAG_REMOTE_STOP = 1 << 4,
+    FLAG_ADHESION_LOSS = 1 << 5,
+    FLAG_CAB_ON = 1 << 6,
+    FLAGS_BUTTONS = FLAG_VIGILANCE | FLAG_PLUS | FLAG_MAN
+};
+
+enum { VIGILANCE_NONE = 0, VIGILANCE_ORDINARY = 1, VIGILANCE_INCREASED = 2 };
+
+enum {
+    MOST_SPEED = 2500,            /* of a card and of a record */
+    TARGET_CAUTIOUS = 1200,       /* target of no code and of Warning, and the least speed of MAN */
+    TARGET_FORTY = 400,           /* target of code 3 before any PLUS */
+    TARGET_STEP = 200,            /* what one PLUS adds to it */
+    TARGET_CLEAR = 1600,
+    MOST_RAISE = 4,
+    LONG_GAP = 50,                /* a gap of more ticks may begin MAN */
+    PRE_CEILING = 1600,
+    VYL_CEILING = 1200,
+    EASED_BELOW = 150,            /* direct brake eases vigilance below this speed */
+    WARNING_ORDINARY_UP_TO = 900, /* above it Warning asks for increased vigilance */
+    INCREASED_CYCLE = 120,
+    INCREASED_FROM = 85,          /* increased vigilance takes a press from this count on */
+    PROMPT_TICKS = 35,
+    SLOW_SET = 1000,              /* up to this set speed the lead is the long one */
+    LONG_LEAD = 150,
+    SHORT_LEAD = 100,
+    START_SPAN = 99,              /* the start prompt is for a curve that stays out of reach for so long */
+    MOST_WRONG_WAY = 3600,        /* 10 m */
+    ZS20_TICKS = 100,
+    BRAKES_RELEASED = 2           /* pressure band */
+};
+
+enum { /* the exercise file */
+    HEADER_BYTES = 10,
+    CARD_BYTES = 20,
+    RUN_BYTES = 10,
+    RECORD_IN_RUN = 2, /* the record stands behind the ticks */
+    MOST_CARDS = 8,
+    MOST_RUNS = 6000
+};
+
+/* Speeds are in tenths of km/h, times in ticks of 0.1 s. The rules' letters stand in parentheses. */
+struct card {
+    uint32_t design, set, highest, pos_ceiling, zav_ceiling;
+    uint32_t tolerance;
+    uint32_t stop_target;
+    uint32_t deceleration; /* tenths of km/h per second (r) */
+    uint32_t cycle;        /* of ordinary vigilance */
+    uint32_t wait;         /* of the movement check */
+};
+
+struct record {
+    uint32_t speed; /* (v) */
+    uint32_t code, mode, lever, flags, band, sense;
+};
+
+/* What the desk holds for PRE alone: from the last code to the kind of the one-time prompt. */
+struct signal {
+    uint32_t last_code;
+    uint32_t gap_code;    /* code before a gap (k) */
+    uint32_t gap;         /* ticks without code, 51 at most (g) */
+    uint32_t raise;       /* steps of PLUS under code 3 */
+    uint32_t curve_start; /* speed at its start, 0: no curve (V0) */
+    uint32_t curve_age;   /* (c) */
+    uint32_t man_speed;   /* 0: MAN off (M) */
+    uint32_t lead_given;  /* the curve's prompt of kind 1 was given (w) */
+    uint32_t prompt;      /* one-time prompt, 0: none (u) */
+    uint32_t prompt_kind;
+};
+
+/* The desk without its card and without the count of ticks, which no rule asks for. */
+struct state {
+    uint32_t mode;
+    uint32_t buttons; /* of the tick before */
+    struct signal signal;
+    uint32_t vigilance_kind;  /* 0 none, 1 ordinary, 2 increased */
+    uint32_t vigilance_ticks; /* (q) */
+    uint32_t wrong_way;       /* distance moved against the direction set (d) */
+    uint32_t standing;        /* ticks stood with brakes released (h) */
+    uint32_t causes;          /* held, NZ1 in bit 0 */
+};
+
+struct exercise_counts {
+    uint32_t cards, runs, ticks;
+};
+
+/* The state of a desk on which no tick has been played. */
+struct state model_fresh_state(void);
+
+/* Plays one tick: changes the state and writes the 8 answer bytes. Card and record are in range. */
+void model_tick(const struct card *card, struct state *state, const struct record *record, uint8_t *answer);
+
+/* Reads an exercise file: gives the number of the refusal, 0 if accepted, and the counts, zeros if refused. */
+uint32_t model_read_exercise(const uint8_t *exercise, size_t exercise_length, struct exercise_counts *counts);
+
+/* The same as foldharbor_run_exercise. */
+uint32_t model_run_exercise(const uint8_t *exercise, size_t exercise_length, uint32_t card, uint8_t *answers,
+                            size_t answers_length);
+
+#endif
