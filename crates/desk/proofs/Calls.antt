@@ -1,0 +1,100 @@
+-- Laws of the calls: what an accepted one says of the desk and the journal, and what is returned then and else.
+-- A chain of refusals that comes to 0 passed every test.
+use Prim.Native.Nat.{ℕ, _+_, _-_, _*_, _≤_, _<_}
+use native.Mathlib.Omega.{arith}
+use mathlib.Core.Path.{_≡_, refl}
+use mathlib.Core.Bool.{Bool, true, false, not, cond, false≢true}
+use mathlib.Core.List.{List}
+use lib.Dec.{ltb, leb, eqb}
+use lib.ListN.{length}
+use borrow.Author.Tests.{eq-eqb, ne-eqb, le-ltb, lt-leb, ltb-false, leb-false, not-false}
+use Rattle.layout.proofs.Tests.{and-iff, leb-iff}
+use Rattle.card.proofs.Ranges.{card-ranges, ranges-card}
+use Rattle.record.specs.declared.Sample.{Sample}
+use Rattle.record.specs.Record.{recordWidth, putRecord}
+use Rattle.record.specs.Sample.{sampleRefusal, sampleRecord}
+use Rattle.rules.specs.Tick.{advance}
+use Rattle.rules.specs.After.{after}
+use Rattle.rules.proofs.Ranges.{state-ranges, ranges-state}
+use Rattle.desk.specs.declared.Desk.{Desk}
+use Rattle.desk.specs.Journal.{mostTicks, capacity, records, allInRange}
+use Rattle.desk.specs.Desk.{DeskRanges, deskInRange}
+use Rattle.desk.specs.Calls.{refused, accepted, tickRefusal, tickNumber, tickOutcome, tickJournal, backRefusal, backOutcome, restartOutcome}
+
+-- ---- ranges
+pub desk-ranges : (d : Desk) → deskInRange d ≡ true → DeskRanges d
+unfolding deskInRange
+desk-ranges d h =
+    let f = simp (and-iff, leb-iff) at h in
+    record { card = card-ranges (d .card) (f .0 .0); n-most = f .0 .1; state = state-ranges (d .state) (f .1) }
+
+pub ranges-desk : (d : Desk) → DeskRanges d → deskInRange d ≡ true
+unfolding deskInRange
+ranges-desk d h = simp (and-iff, leb-iff) ((ranges-card _ (h .card), h .n-most), ranges-state _ (h .state))
+
+-- ---- refusals
+passed : (b : Bool) (k x : ℕ) → 0 < k → cond b k x ≡ 0 → (b ≡ false) × (x ≡ 0)
+passed true k x h e = absurd (omega arith)
+passed false k x h e = (refl, e)
+
+pub record TickTaken (d : Desk) (sample length : ℕ) : Type 0 where
+  pub desk-good : deskInRange d ≡ true
+  pub long : recordWidth * d .n ≤ length
+  pub below : d .n < capacity length
+  pub fine : sample ≡ 0
+
+module _ (d : Desk) (sample length : ℕ) where
+  pub tick-taken : tickRefusal d sample length ≡ 0 → TickTaken d sample length
+  unfolding tickRefusal
+  tick-taken e =
+      let five = passed (not (deskInRange d)) 5 _ (omega arith) e in
+      let six = passed (ltb length (recordWidth * d .n)) 6 _ (omega arith) (five .1) in
+      let seven = passed (leb (capacity length) (d .n)) 7 sample (omega arith) (six .1) in
+      record {
+        desk-good = not-false _ (five .0); long = ltb-false _ _ (six .0); below = leb-false _ _ (seven .0); fine = seven .1 }
+
+  pub taken-tick : TickTaken d sample length → tickRefusal d sample length ≡ 0
+  unfolding tickRefusal
+  taken-tick t = rw (t .desk-good, le-ltb _ _ (t .long), lt-leb _ _ (t .below)) (t .fine)
+
+pub record BackTaken (d : Desk) (k : ℕ) (J : List ℕ) : Type 0 where
+  pub desk-good : deskInRange d ≡ true
+  pub long : recordWidth * d .n ≤ length J
+  pub few : k ≤ d .n
+  pub good : allInRange J (d .n - k) ≡ true
+
+module _ (d : Desk) (k : ℕ) (J : List ℕ) where
+  pub back-taken : backRefusal d k J ≡ 0 → BackTaken d k J
+  unfolding backRefusal
+  back-taken e =
+      let five = passed (not (deskInRange d)) 5 _ (omega arith) e in
+      let six = passed (ltb (length J) (recordWidth * d .n)) 6 _ (omega arith) (five .1) in
+      let eight = passed (ltb (d .n) k) 8 _ (omega arith) (six .1) in
+      let nine = passed (not (allInRange J (d .n - k))) 9 0 (omega arith) (eight .1) in
+      record {
+        desk-good = not-false _ (five .0); long = ltb-false _ _ (six .0); few = ltb-false _ _ (eight .0); good = not-false _ (nine .0) }
+
+  pub taken-back : BackTaken d k J → backRefusal d k J ≡ 0
+  unfolding backRefusal
+  taken-back t = rw (t .desk-good, le-ltb _ _ (t .long), le-ltb _ _ (t .few), t .good)
+
+-- ---- outcomes
+module _ (d : Desk) (x : Sample) (J : List ℕ) where
+  pub tick-yes : tickNumber d x J ≡ 0 →
+      (tickOutcome d x J ≡ accepted (d .card) (d .n + 1) (advance (d .card) (d .state) (sampleRecord x)))
+      × (tickJournal d x J ≡ putRecord J (recordWidth * d .n) (sampleRecord x))
+  unfolding tickOutcome tickJournal
+  tick-yes e = (rw (eq-eqb _ _ e), rw (eq-eqb _ _ e))
+
+  pub tick-no : (tickNumber d x J ≡ 0 → ⊥) → (tickOutcome d x J ≡ refused d (tickNumber d x J)) × (tickJournal d x J ≡ J)
+  unfolding tickOutcome tickJournal
+  tick-no e = (rw (ne-eqb _ _ e), rw (ne-eqb _ _ e))
+
+module _ (d : Desk) (k : ℕ) (J : List ℕ) where
+  pub back-yes : backRefusal d k J ≡ 0 → backOutcome d k J ≡ accepted (d .card) (d .n - k) (after (d .card) (records J) (d .n - k))
+  unfolding backOutcome
+  back-yes e = rw (eq-eqb _ _ e)
+
+  pub back-no : (backRefusal d k J ≡ 0 → ⊥) → backOutcome d k J ≡ refused d (backRefusal d k J)
+  unfolding backOutcome
+  back-no e = rw (ne-eqb _ _ e)

@@ -1,0 +1,26 @@
+-- Each call's contract determines its result and every lent byte: two outcomes that satisfy it are equal.
+-- `Post` is the contract as the check reads it off the source, so a contract that says less breaks these lines.
+use mathlib.Core.Path.{_≡_, sym, _∙_}
+use denote.Ref.{now}
+use contract.Lifetimes.{Lfts}
+use Rattle.desk.proofs.Desk.open.Reads as opening
+use Rattle.desk.proofs.Desk.tick.Reads as ticking
+use Rattle.desk.proofs.Desk.step_back.Reads as backing
+use Rattle.desk.proofs.Desk.restart.Reads as restarting
+
+-- both are the same third
+alike : {A : Type 0} {a x y : A} → x ≡ a → y ≡ a → x ≡ y
+alike p q = p ∙ sym q
+
+pub open-determined : (κs : Lfts 0) (a : _) (x y : _) (s t : _) → opening.Post κs a x s → opening.Post κs a y t → x ≡ y
+open-determined κs a x y s t p q = alike p q
+
+-- `s .1 .1 .0` is the journal, the third parameter, at exit
+pub tick-determined : (κs : Lfts 1) (a : _) (x y : _) (s t : _) → ticking.Post κs a x s → ticking.Post κs a y t → (x ≡ y) × (now (s .1 .1 .0) ≡ now (t .1 .1 .0))
+tick-determined κs a x y s t p q = (alike (p .0) (q .0), alike (p .1) (q .1))
+
+pub step-back-determined : (κs : Lfts 1) (a : _) (x y : _) (s t : _) → backing.Post κs a x s → backing.Post κs a y t → x ≡ y
+step-back-determined κs a x y s t p q = alike p q
+
+pub restart-determined : (κs : Lfts 0) (a : _) (x y : _) (s t : _) → restarting.Post κs a x s → restarting.Post κs a y t → x ≡ y
+restart-determined κs a x y s t p q = alike p q

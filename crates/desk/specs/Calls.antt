@@ -1,0 +1,70 @@
+-- What each call on a desk returns, and what a tick leaves in the journal. A refusal number of 0 is none; the numbers stand in the paper's order.
+use Prim.Native.Nat.{ℕ, _+_, _-_, _*_}
+use mathlib.Core.List.{List}
+use mathlib.Core.Bool.{Bool, not, cond}
+use lib.Dec.{leb, ltb, eqb}
+use lib.ListN.{length}
+use Rattle.card.specs.declared.Card.{Card}
+use Rattle.card.specs.Card.{cardInRange}
+use Rattle.record.specs.declared.Record.{Record}
+use Rattle.record.specs.declared.Sample.{Sample}
+use Rattle.record.specs.Record.{recordWidth, putRecord}
+use Rattle.record.specs.Sample.{sampleRefusal, sampleRecord}
+use Rattle.rules.specs.declared.Advanced.{Advanced}
+use Rattle.rules.specs.Tick.{advance}
+use Rattle.rules.specs.After.{noAnswer, after}
+use Rattle.desk.specs.declared.Desk.{Desk}
+use Rattle.desk.specs.declared.Outcome.{Outcome}
+use Rattle.desk.specs.Journal.{capacity, records, allInRange}
+use Rattle.desk.specs.Desk.{deskInRange, freshDesk, noDesk}
+
+-- a refusal: its number, the desk handed in, and an answer of zeros
+abbrev pub refused : Desk → ℕ → Outcome
+refused desk number = record { desk = desk; answer = noAnswer; refusal = number }
+
+-- a desk of n ticks, in the state and with the answer that a tick gave
+abbrev pub accepted : Card → ℕ → Advanced → Outcome
+accepted card n a = record { desk = record { card = card; n = n; state = a .state }; answer = a .answer; refusal = 0 }
+
+-- opening: 4
+unfoldable pub openOutcome : Card → Outcome
+openOutcome card = cond (not (cardInRange card)) (refused noDesk 4) (refused (freshDesk card) 0)
+
+-- tick: 5, 6, 7, then 1, 2, 3 of the sample
+unfoldable pub tickRefusal : Desk → ℕ → ℕ → ℕ
+tickRefusal d sample length =
+    cond (not (deskInRange d)) 5
+    (cond (ltb length (recordWidth * d .n)) 6
+    (cond (leb (capacity length) (d .n)) 7 sample))
+
+module _ (d : Desk) (x : Sample) (journal : List ℕ) where
+  abbrev pub tickNumber : ℕ
+  tickNumber = tickRefusal d (sampleRefusal x) (length journal)
+
+  unfoldable pub tickOutcome : Outcome
+  tickOutcome =
+      cond (eqb tickNumber 0) (accepted (d .card) (d .n + 1) (advance (d .card) (d .state) (sampleRecord x)))
+      (refused d tickNumber)
+
+  -- the record is written to bytes 8n to 8n + 7, no other byte changes
+  unfoldable pub tickJournal : List ℕ
+  tickJournal = cond (eqb tickNumber 0) (putRecord journal (recordWidth * d .n) (sampleRecord x)) journal
+
+-- step back: 5, 6, 8, 9
+module _ (d : Desk) (k : ℕ) (journal : List ℕ) where
+  unfoldable pub backRefusal : ℕ
+  backRefusal =
+      cond (not (deskInRange d)) 5
+      (cond (ltb (length journal) (recordWidth * d .n)) 6
+      (cond (ltb (d .n) k) 8
+      (cond (not (allInRange journal (d .n - k))) 9 0)))
+
+  -- rebuilt from the first n − k records
+  unfoldable pub backOutcome : Outcome
+  backOutcome =
+      cond (eqb backRefusal 0) (accepted (d .card) (d .n - k) (after (d .card) (records journal) (d .n - k)))
+      (refused d backRefusal)
+
+-- restart: 5
+unfoldable pub restartOutcome : Desk → Outcome
+restartOutcome d = cond (not (deskInRange d)) (refused d 5) (refused (freshDesk (d .card)) 0)

@@ -1,0 +1,33 @@
+-- The desk: its ranges, as facts and as the test that the code makes; a fresh desk, and one of zeros.
+use Prim.Native.Nat.{ℕ, _≤_}
+use mathlib.Core.Bool.{Bool, _&&_}
+use lib.Dec.{leb}
+use Rattle.card.specs.declared.Card.{Card}
+use Rattle.card.specs.Card.{CardRanges, cardInRange}
+use Rattle.rules.specs.declared.State.{State}
+use Rattle.rules.specs.State.{fresh, noSignal, noOnce, noWatch, StateRanges, stateInRange}
+use Rattle.desk.specs.declared.Desk.{Desk}
+use Rattle.desk.specs.Journal.{mostTicks}
+
+pub record DeskRanges (d : Desk) : Type 0 where
+  pub card : CardRanges (d .card)
+  pub n-most : d .n ≤ mostTicks
+  pub state : StateRanges (d .state)
+
+unfoldable pub deskInRange : Desk → Bool
+deskInRange d = cardInRange (d .card) && leb (d .n) mostTicks && stateInRange (d .state)
+
+abbrev pub freshDesk : Card → Desk
+freshDesk card = record { card = card; n = 0; state = fresh }
+
+-- a desk of zeros, card and mode included
+abbrev pub noCard : Card
+noCard = record {
+  design = 0; set = 0; highest = 0; pos = 0; zav = 0; tolerance = 0; stop = 0; deceleration = 0; cycle = 0; wait = 0 }
+
+abbrev pub noState : State
+noState = record {
+  mode = 0; buttons = 0; signal = noSignal; once = noOnce; watch = noWatch; wrongway = 0; standing = 0; causes = 0 }
+
+abbrev pub noDesk : Desk
+noDesk = record { card = noCard; n = 0; state = noState }

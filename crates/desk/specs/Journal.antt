@@ -1,0 +1,20 @@
+-- The journal: the record at each place, how many it takes, and whether the first of them are in range.
+use Prim.Native.Nat.{ℕ, zero, suc, _*_, _/_, min}
+use mathlib.Core.List.{List}
+use mathlib.Core.Bool.{Bool, true, _&&_}
+use Rattle.record.specs.declared.Record.{Record}
+use Rattle.record.specs.Record.{recordWidth, recordAt, recordInRange}
+
+abbrev pub mostTicks : ℕ
+mostTicks = 7200
+
+-- the lesser of 7,200 and journal length / 8, whole
+unfoldable pub capacity : ℕ → ℕ
+capacity length = min mostTicks (length / recordWidth)
+
+unfoldable pub records : List ℕ → ℕ → Record
+records journal i = recordAt journal (recordWidth * i)
+
+unfoldable pub allInRange : List ℕ → ℕ → Bool
+allInRange journal zero = true
+allInRange journal (suc m) = allInRange journal m && recordInRange (records journal m)
