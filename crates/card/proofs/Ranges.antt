@@ -6,7 +6,7 @@ use mathlib.Core.Bool.{true}
 use mathlib.Core.Logic.{⊎-elim}
 use native.Mathlib.Omega.{arith}
 use borrow.Author.Needs.{needs}
-use Rattle.layout.proofs.Tests.{and-iff, leb-iff, either-iff}
+use Rattle.numbers.proofs.Tests.{and-iff, leb-iff, either-iff}
 use Rattle.card.specs.declared.Card.{Card}
 use Rattle.card.specs.Card.{CardRanges, cardInRange, shortWait, longWait}
 

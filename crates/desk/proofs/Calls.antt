@@ -7,8 +7,8 @@ use mathlib.Core.Bool.{Bool, true, false, not, cond, false≢true}
 use mathlib.Core.List.{List}
 use lib.Dec.{ltb, leb, eqb}
 use lib.ListN.{length}
-use borrow.Author.Tests.{eq-eqb, ne-eqb, le-ltb, lt-leb, ltb-false, leb-false, not-false}
-use Rattle.layout.proofs.Tests.{and-iff, leb-iff}
+use borrow.Author.Tests.{eq-eqb, ne-eqb, le-ltb, lt-ltb, lt-leb, ltb-false, leb-false, not-false}
+use Rattle.numbers.proofs.Tests.{and-iff, leb-iff}
 use Rattle.card.proofs.Ranges.{card-ranges, ranges-card}
 use Rattle.record.specs.declared.Sample.{Sample}
 use Rattle.record.specs.Record.{recordWidth, putRecord}
@@ -51,7 +51,11 @@ module _ (d : Desk) (sample length : ℕ) where
       let six = passed (ltb length (recordWidth * d .n)) 6 _ (omega arith) (five .1) in
       let seven = passed (leb (capacity length) (d .n)) 7 sample (omega arith) (six .1) in
       record {
-        desk-good = not-false _ (five .0); long = ltb-false _ _ (six .0); below = leb-false _ _ (seven .0); fine = seven .1 }
+        desk-good = not-false _ (five .0);
+        long = ltb-false _ _ (six .0);
+        below = leb-false _ _ (seven .0);
+        fine = seven .1;
+      }
 
   pub taken-tick : TickTaken d sample length → tickRefusal d sample length ≡ 0
   unfolding tickRefusal
@@ -72,11 +76,20 @@ module _ (d : Desk) (k : ℕ) (J : List ℕ) where
       let eight = passed (ltb (d .n) k) 8 _ (omega arith) (six .1) in
       let nine = passed (not (allInRange J (d .n - k))) 9 0 (omega arith) (eight .1) in
       record {
-        desk-good = not-false _ (five .0); long = ltb-false _ _ (six .0); few = ltb-false _ _ (eight .0); good = not-false _ (nine .0) }
+        desk-good = not-false _ (five .0);
+        long = ltb-false _ _ (six .0);
+        few = ltb-false _ _ (eight .0);
+        good = not-false _ (nine .0);
+      }
 
   pub taken-back : BackTaken d k J → backRefusal d k J ≡ 0
   unfolding backRefusal
   taken-back t = rw (t .desk-good, le-ltb _ _ (t .long), le-ltb _ _ (t .few), t .good)
+
+  -- more than there are ticks
+  pub back-many : deskInRange d ≡ true → recordWidth * d .n ≤ length J → d .n < k → backRefusal d k J ≡ 8
+  unfolding backRefusal
+  back-many g l h = rw (g, le-ltb _ _ l, lt-ltb _ _ h)
 
 -- ---- outcomes
 module _ (d : Desk) (x : Sample) (J : List ℕ) where

@@ -8,7 +8,7 @@ use mathlib.Core.Path.{_≡_, refl, sym, _∙_}
 use mathlib.Core.Logic.{⊎-elim}
 use mathlib.Core.Bool.{Bool, true, false, _&&_, true≢false}
 use mathlib.Core.List.{List}
-use Rattle.layout.proofs.Tests.{and-iff}
+use Rattle.numbers.proofs.Tests.{and-iff}
 use Rattle.record.specs.Record.{recordWidth, recordInRange}
 use Rattle.desk.specs.Journal.{mostTicks, capacity, records, allInRange}
 
@@ -35,6 +35,11 @@ all-not J i m h k = go (allInRange J m) refl
     go : (b : Bool) → allInRange J m ≡ b → allInRange J m ≡ false
     go true e = absurd (true≢false (sym (all-each J i m h e) ∙ k))
     go false e = e
+
+pub each-all : (J : List ℕ) (m : ℕ) → ((i : ℕ) → i < m → recordInRange (records J i) ≡ true) → allInRange J m ≡ true
+unfolding allInRange
+each-all J zero h = refl
+each-all J (suc m) h = and-iff _ _ .1 (each-all J m (λ i l. h i (omega arith)), h m (omega arith))
 
 -- a tick below the capacity has its place in the journal
 pub room : (n length : ℕ) → n < capacity length → (n < mostTicks) × (recordWidth * n + recordWidth ≤ length)

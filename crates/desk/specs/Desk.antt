@@ -23,11 +23,29 @@ freshDesk card = record { card = card; n = 0; state = fresh }
 -- a desk of zeros, card and mode included
 abbrev pub noCard : Card
 noCard = record {
-  design = 0; set = 0; highest = 0; pos = 0; zav = 0; tolerance = 0; stop = 0; deceleration = 0; cycle = 0; wait = 0 }
+  design = 0;
+  set = 0;
+  highest = 0;
+  pos = 0;
+  zav = 0;
+  tolerance = 0;
+  stop = 0;
+  deceleration = 0;
+  cycle = 0;
+  wait = 0;
+}
 
 abbrev pub noState : State
 noState = record {
-  mode = 0; buttons = 0; signal = noSignal; once = noOnce; watch = noWatch; wrongway = 0; standing = 0; causes = 0 }
+  mode = 0;
+  buttons = 0;
+  signal = noSignal;
+  once = noOnce;
+  watch = noWatch;
+  wrongway = 0;
+  standing = 0;
+  causes = 0;
+}
 
 abbrev pub noDesk : Desk
 noDesk = record { card = noCard; n = 0; state = noState }

@@ -9,7 +9,6 @@ ghost use Rattle.rules.specs.After.{noAnswer, after};
 ghost use Rattle.desk.specs.Journal.{capacity, records, allInRange, mostTicks};
 ghost use Rattle.desk.specs.Desk.{deskInRange, freshDesk, noDesk};
 ghost use Rattle.desk.specs.Calls.{refused, accepted, openOutcome, tickRefusal, tickOutcome, tickJournal, backRefusal, backOutcome, restartOutcome};
-
 use card::Card;
 use record::RECORD_WIDTH;
 use record::Sample;

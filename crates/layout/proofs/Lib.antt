@@ -1,3 +1,2 @@
 pub mod Written
 pub mod U16
-pub mod Tests

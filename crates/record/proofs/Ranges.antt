@@ -3,7 +3,7 @@
 use mathlib.Core.Path.{_≡_}
 use mathlib.Core.Bool.{true}
 use native.Mathlib.Omega.{arith}
-use Rattle.layout.proofs.Tests.{and-iff, leb-iff}
+use Rattle.numbers.proofs.Tests.{and-iff, leb-iff}
 use Rattle.record.specs.declared.Record.{Record}
 use Rattle.record.specs.Record.{RecordRanges, recordInRange}
 

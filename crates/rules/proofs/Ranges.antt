@@ -1,21 +1,21 @@
--- temp
+-- The test of a state says that it is in range, and the other way round; a fresh state is in range.
+-- The test taken apart into its facts and the tests of its parts. Assumes nothing.
 use mathlib.Core.Path.{_≡_}
 use mathlib.Core.Bool.{true}
 use native.Mathlib.Omega.{arith}
-use borrow.Author.Needs.{needs}
-use Rattle.layout.proofs.Tests.{and-iff, leb-iff}
-use Rattle.signal.specs.Ranges.{signalInRange}
-use Rattle.vigilance.specs.Ranges.{watchInRange, onceInRange}
+use Rattle.numbers.proofs.Tests.{and-iff, leb-iff}
+use Rattle.signal.proofs.Ranges.{signal-ranges, ranges-signal}
+use Rattle.vigilance.proofs.Ranges.{watch-ranges, ranges-watch, once-ranges, ranges-once}
 use Rattle.rules.specs.declared.State.{State}
 use Rattle.rules.specs.State.{fresh, StateRanges, stateInRange}
 
 pub state-ranges : (s : State) → stateInRange s ≡ true → StateRanges s
-unfolding stateInRange signalInRange onceInRange watchInRange
-state-ranges s h = let f = simp (and-iff, leb-iff) at h in omega (arith, f)
+unfolding stateInRange
+state-ranges s h = let f = simp (and-iff, leb-iff) at h in search (signal-ranges, once-ranges, watch-ranges)
 
 pub ranges-state : (s : State) → StateRanges s → stateInRange s ≡ true
-unfolding stateInRange signalInRange onceInRange watchInRange
-ranges-state s h = simp (and-iff, leb-iff) (omega arith)
+unfolding stateInRange
+ranges-state s h = simp (and-iff, leb-iff) (search (ranges-signal, ranges-once, ranges-watch))
 
 pub fresh-ranges : StateRanges fresh
 fresh-ranges = omega arith

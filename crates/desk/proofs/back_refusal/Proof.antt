@@ -3,56 +3,41 @@ use borrow.Author.Tests.{le-ltb, lt-ltb}
 use borrow.Author.Needs.{needs}
 use Rattle.desk.proofs.back_refusal.Statement.{statement}
 use Rattle.desk.proofs.back_refusal.Tie as tie
-use Rattle.desk.proofs.back_refusal.Reads as reads
-use Rattle.desk.proofs.back_refusal.Lts as lts
-use Rattle.desk.proofs.all_in_range.Reads as all-in-range-reads
-use Rattle.desk.proofs.desk_in_range.Reads as desk-in-range-reads
 
--- src/lib.rt:163:9
 desk-in-range-requires : tie.Need-desk-in-range-requires
 desk-in-range-requires c κs = search needs
 
--- src/lib.rt:164:9
 returns : tie.Need-returns
 unfolding backRefusal
 returns c = simp (c .if1 .taken, ← c .before .desk-in-range .ensures)
 
--- src/lib.rt:166:13
 cast-n : tie.Need-cast-n
 cast-n c = search needs
 
--- src/lib.rt:167:40
 cast-if2 : tie.Need-cast-if2
 cast-if2 c = search needs
 
--- src/lib.rt:167:24
 mul-if2 : tie.Need-mul-if2
 mul-if2 c = search needs
 
--- src/lib.rt:168:9
 returns-2 : tie.Need-returns-2
 unfolding backRefusal
 returns-2 c = simp (lt-ltb _ _ (c .if2 .taken), c .before .before .if1 .left, ← c .before .before .before .desk-in-range .ensures)
 
--- src/lib.rt:171:9
 returns-3 : tie.Need-returns-3
 unfolding backRefusal
 returns-3 c = simp (lt-ltb _ _ (c .if3 .taken), le-ltb _ _ (c .before .if2 .left), c .before .before .before .if1 .left, ← c .before .before .before .before .desk-in-range .ensures)
 
--- src/lib.rt:173:31
 cast-all-in-range : tie.Need-cast-all-in-range
 cast-all-in-range c = search needs
 
--- src/lib.rt:173:9
 all-in-range-requires : tie.Need-all-in-range-requires
 all-in-range-requires c κs = search needs
 
--- src/lib.rt:174:9
 returns-4 : tie.Need-returns-4
 unfolding backRefusal
 returns-4 c = simp (c .if4 .taken, ← c .before .all-in-range .ensures, le-ltb _ _ (c .before .before .if3 .left), le-ltb _ _ (c .before .before .before .if2 .left), c .before .before .before .before .before .if1 .left, ← c .before .before .before .before .before .before .desk-in-range .ensures)
 
--- src/lib.rt:160:1
 returns-5 : tie.Need-returns-5
 unfolding backRefusal
 returns-5 c = simp (c .if4 .left, ← c .before .all-in-range .ensures, le-ltb _ _ (c .before .before .if3 .left), le-ltb _ _ (c .before .before .before .if2 .left), c .before .before .before .before .before .if1 .left, ← c .before .before .before .before .before .before .desk-in-range .ensures)

@@ -3,43 +3,31 @@ use borrow.Author.Tests.{le-leb, le-ltb, lt-leb, lt-ltb}
 use borrow.Author.Needs.{needs}
 use Rattle.desk.proofs.tick_refusal.Statement.{statement}
 use Rattle.desk.proofs.tick_refusal.Tie as tie
-use Rattle.desk.proofs.tick_refusal.Reads as reads
-use Rattle.desk.proofs.tick_refusal.Lts as lts
-use Rattle.desk.proofs.capacity.Reads as capacity-reads
-use Rattle.desk.proofs.desk_in_range.Reads as desk-in-range-reads
 
--- src/lib.rt:132:9
 desk-in-range-requires : tie.Need-desk-in-range-requires
 desk-in-range-requires c κs = search needs
 
--- src/lib.rt:133:9
 returns : tie.Need-returns
 unfolding tickRefusal
 returns c = simp (c .if1 .taken, ← c .before .desk-in-range .ensures)
 
--- src/lib.rt:135:13
 cast-n : tie.Need-cast-n
 cast-n c = search needs
 
--- src/lib.rt:136:17
 mul-if2 : tie.Need-mul-if2
 mul-if2 c = search needs
 
--- src/lib.rt:137:9
 returns-2 : tie.Need-returns-2
 unfolding tickRefusal
 returns-2 c = simp (lt-ltb _ _ (c .if2 .taken), c .before .before .if1 .left, ← c .before .before .before .desk-in-range .ensures)
 
--- src/lib.rt:139:8
 capacity-requires : tie.Need-capacity-requires
 capacity-requires c κs = search needs
 
--- src/lib.rt:140:9
 returns-3 : tie.Need-returns-3
 unfolding tickRefusal
 returns-3 c = simp (le-leb _ _ (c .if3 .taken), ← c .before .capacity .ensures, le-ltb _ _ (c .before .before .if2 .left), c .before .before .before .before .if1 .left, ← c .before .before .before .before .before .desk-in-range .ensures)
 
--- src/lib.rt:129:1
 returns-4 : tie.Need-returns-4
 unfolding tickRefusal
 returns-4 c = simp (lt-leb _ _ (c .if3 .left), ← c .before .capacity .ensures, le-ltb _ _ (c .before .before .if2 .left), c .before .before .before .before .if1 .left, ← c .before .before .before .before .before .desk-in-range .ensures)

@@ -2,39 +2,26 @@ use Rattle.desk.specs.Calls.{openOutcome}
 use borrow.Author.Needs.{needs}
 use Rattle.desk.proofs.Desk.open.Statement.{statement}
 use Rattle.desk.proofs.Desk.open.Tie as tie
-use Rattle.desk.proofs.Desk.open.Reads as reads
-use Rattle.desk.proofs.Desk.open.Lts as lts
-use Rattle.card.proofs.card_in_range.Reads as card-in-range-reads
-use Rattle.desk.proofs.fresh_desk.Reads as fresh-desk-reads
-use Rattle.desk.proofs.no_desk.Reads as no-desk-reads
-use Rattle.desk.proofs.refused.Reads as refused-reads
 
--- src/lib.rt:205:13
 card-in-range-requires : tie.Need-card-in-range-requires
 card-in-range-requires c κs = search needs
 
--- src/lib.rt:206:28
 no-desk-requires : tie.Need-no-desk-requires
 no-desk-requires c κs = search needs
 
--- src/lib.rt:206:13
 refused-requires : tie.Need-refused-requires
 refused-requires c κs = search needs
 
--- src/lib.rt:206:13
 returns : tie.Need-returns
 unfolding openOutcome
 returns c = simp (← c .refused .ensures, ← c .before .no-desk .ensures, c .before .before .if1 .taken, ← c .before .before .before .card-in-range .ensures)
 
--- src/lib.rt:208:17
 fresh-desk-requires : tie.Need-fresh-desk-requires
 fresh-desk-requires c κs = search needs
 
--- src/lib.rt:208:9
 refused-requires-2 : tie.Need-refused-requires-2
 refused-requires-2 c κs = search needs
 
--- src/lib.rt:202:5
 returns-2 : tie.Need-returns-2
 unfolding openOutcome
 returns-2 c = simp (← c .refused2 .ensures, ← c .before .fresh-desk .ensures, c .before .before .if1 .left, ← c .before .before .before .card-in-range .ensures)

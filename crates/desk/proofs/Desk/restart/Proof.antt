@@ -2,34 +2,23 @@ use Rattle.desk.specs.Calls.{restartOutcome}
 use borrow.Author.Needs.{needs}
 use Rattle.desk.proofs.Desk.restart.Statement.{statement}
 use Rattle.desk.proofs.Desk.restart.Tie as tie
-use Rattle.desk.proofs.Desk.restart.Reads as reads
-use Rattle.desk.proofs.Desk.restart.Lts as lts
-use Rattle.desk.proofs.desk_in_range.Reads as desk-in-range-reads
-use Rattle.desk.proofs.fresh_desk.Reads as fresh-desk-reads
-use Rattle.desk.proofs.refused.Reads as refused-reads
 
--- src/lib.rt:243:13
 desk-in-range-requires : tie.Need-desk-in-range-requires
 desk-in-range-requires c κs = search needs
 
--- src/lib.rt:244:13
 refused-requires : tie.Need-refused-requires
 refused-requires c κs = search needs
 
--- src/lib.rt:244:13
 returns : tie.Need-returns
 unfolding restartOutcome
 returns c = simp (← c .refused .ensures, c .before .if1 .taken, ← c .before .before .desk-in-range .ensures)
 
--- src/lib.rt:247:17
 fresh-desk-requires : tie.Need-fresh-desk-requires
 fresh-desk-requires c κs = search needs
 
--- src/lib.rt:247:9
 refused-requires-2 : tie.Need-refused-requires-2
 refused-requires-2 c κs = search needs
 
--- src/lib.rt:240:5
 returns-2 : tie.Need-returns-2
 unfolding restartOutcome
 returns-2 c = simp (← c .refused2 .ensures, ← c .before .fresh-desk .ensures, c .before .before .before .if1 .left, ← c .before .before .before .before .desk-in-range .ensures)

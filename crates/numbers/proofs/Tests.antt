@@ -2,7 +2,7 @@
 -- By cases on the Bools. Assumes nothing.
 use Prim.Native.Nat.{ℕ, _≤_}
 use mathlib.Core.Path.{_≡_, refl}
-use mathlib.Core.Bool.{Bool, true, false, _&&_, _||_, false≢true, or-true}
+use mathlib.Core.Bool.{Bool, true, false, not, _&&_, _||_, true≢false, false≢true, or-true}
 use mathlib.Core.Logic.{_⊎_, inl, inr, ⊎-elim, _↔_}
 use borrow.Author.Tests.{leb-true, le-leb, eqb-true, eq-eqb}
 use lib.Dec.{leb, eqb}
@@ -31,3 +31,11 @@ either-iff x a b = (
   λ h. ⊎-elim (λ e. inl (eqb-true x a e)) (λ e. inr (eqb-true x b e)) (or-either (eqb x a) (eqb x b) h),
   ⊎-elim (λ e. rw (eq-eqb x a e)) (λ e. rw (eq-eqb x b e) (or-true (eqb x a))),
 )
+
+pub not-iff : (a : Bool) → (not a ≡ true) ↔ (a ≡ false)
+not-iff true = (λ e. absurd (false≢true e), λ e. absurd (true≢false e))
+not-iff false = (λ e. refl, λ e. refl)
+
+pub neither-iff : (a b : Bool) → ((a || b) ≡ false) ↔ ((a ≡ false) × (b ≡ false))
+neither-iff true b = (λ e. absurd (true≢false e), λ h. h .0)
+neither-iff false b = (λ e. (refl, e), λ h. h .1)

@@ -1,0 +1,83 @@
+-- One tick keeps the state in range, and what it finds on the way is in range too.
+-- Each part by the law of its step, put together as the tick puts them together. Assumes nothing.
+use Prim.Native.Nat.{ℕ, _≤_}
+use mathlib.Core.Bool.{_||_}
+use lib.Dec.{eqb}
+use native.Mathlib.Omega.{arith}
+use Rattle.numbers.proofs.Choice.{cond-has, most-iff}
+use Rattle.reading.specs.Speed.{topSpeed}
+use Rattle.card.specs.declared.Card.{Card}
+use Rattle.card.specs.Card.{CardRanges}
+use Rattle.record.specs.declared.Record.{Record}
+use Rattle.record.specs.Record.{RecordRanges}
+use Rattle.record.specs.Modes.{pos, pre, zav}
+use Rattle.signal.specs.Ranges.{SignalRanges, AspectRanges}
+use Rattle.signal.proofs.Keeps.{aspect-now-ranges}
+use Rattle.vigilance.specs.Ranges.{WatchRanges, OnceRanges}
+use Rattle.vigilance.proofs.Keeps.{watch-kind-most, watched-ranges, asked-ranges}
+use Rattle.causes.specs.Direction.{farthest}
+use Rattle.causes.proofs.Keeps.{wrongway-now-most, wrongway-left-most, standing-now-most, mask-of-most}
+use Rattle.rules.specs.declared.State.{State}
+use Rattle.rules.specs.declared.Findings.{Findings}
+use Rattle.rules.specs.State.{StateRanges}
+use Rattle.rules.specs.Mode.{modeNow, newMode, outsidePre, entered}
+use Rattle.rules.specs.Permitted.{permitted}
+use Rattle.rules.specs.Tick.{aspectIn, permittedIn, kindIn, cyclicIn, oneTimeIn, movedIn, stoodIn, found, FindingsRanges, heldNext, wrongwayNext, stateNext, ticked, advance}
+
+-- ---- step 1
+module _ (s : State) (r : Record) (good : StateRanges s) (fits : RecordRanges r) where
+  mode-now-between : (pos ≤ modeNow s r) × (modeNow s r ≤ zav)
+  unfolding modeNow
+  mode-now-between = cond-has (λ m. (pos ≤ m) × (m ≤ zav)) (eqb (r .v) 0) (omega arith) (omega arith)
+
+  pub entered-ranges : StateRanges (entered s r)
+  unfolding entered
+  entered-ranges = record {
+    mode-least = mode-now-between .0;
+    mode-most = mode-now-between .1;
+    buttons-most = good .buttons-most;
+    signal = cond-has SignalRanges (newMode s r || outsidePre s r) (omega arith) (good .signal);
+    once = cond-has OnceRanges (newMode s r || outsidePre s r) (omega arith) (good .once);
+    watch = cond-has WatchRanges (newMode s r) (omega arith) (good .watch);
+    wrongway-most = simp most-iff (omega arith);
+    standing-most = simp most-iff (omega arith);
+    causes-most = good .causes-most;
+  }
+
+-- ---- steps 2 to 9
+pub permitted-most : (card : Card) (mode speed : ℕ) → CardRanges card → permitted card mode speed ≤ topSpeed
+unfolding permitted
+permitted-most card mode speed good = simp most-iff (omega arith)
+
+module _ (card : Card) (s : State) (r : Record) (card-good : CardRanges card) (good : StateRanges s) (fits : RecordRanges r) where
+  aspect-in-ranges : AspectRanges (aspectIn card s r)
+  unfolding aspectIn
+  aspect-in-ranges =
+      cond-has AspectRanges (eqb (s .mode) pre) (aspect-now-ranges _ _ _ card-good (good .signal) fits _) (omega arith)
+
+  pub found-ranges : FindingsRanges (found card s r)
+  unfolding found permittedIn kindIn cyclicIn oneTimeIn movedIn stoodIn
+  found-ranges = record {
+    aspect = aspect-in-ranges;
+    permitted-most = permitted-most _ _ _ card-good;
+    watch = watched-ranges _ _ card-good _ _ (watch-kind-most _ _ _ _);
+    once = asked-ranges _ _ _ _ _ _ _ (aspect-in-ranges .signal .curve .given-most) (good .once .kind-most);
+    wrongway-most = wrongway-now-most _ _ _ _ (good .wrongway-most);
+    standing-most = standing-now-most _ _ _ _ _ _ card-good (good .standing-most);
+  }
+
+-- ---- step 10
+module _ (card : Card) (s : State) (r : Record) (f : Findings) (good : StateRanges s) (f-good : FindingsRanges f) where
+  wrongway-next-most : wrongwayNext card s r f ≤ farthest
+  unfolding wrongwayNext
+  wrongway-next-most = wrongway-left-most _ _ _ _ (f-good .wrongway-most)
+
+  pub state-next-ranges : StateRanges (stateNext card s r f)
+  unfolding stateNext
+  state-next-ranges = omega (arith, wrongway-next-most, mask-of-most (heldNext card s r f))
+
+pub advance-keeps : (card : Card) (s : State) (r : Record) → CardRanges card → StateRanges s → RecordRanges r → StateRanges (advance card s r .state)
+unfolding advance ticked
+advance-keeps card s r card-good good fits =
+    let begun = entered-ranges s r good fits in
+    state-next-ranges _ _ _ _ begun (found-ranges _ _ _ card-good begun fits)

@@ -1,0 +1,99 @@
+-- Steps 2 to 6 keep the signals in range, and find speeds in range.
+-- Each choice is bounded arm by arm; an arm that counts on by its own test. Assumes nothing.
+use Prim.Native.Nat.{ℕ, _≤_}
+use mathlib.Core.Path.{_≡_}
+use mathlib.Core.Bool.{Bool, true}
+use native.Mathlib.Omega.{arith}
+use borrow.Author.Tests.{ltb-true, eqb-false}
+use Rattle.numbers.proofs.Choice.{cond-iff, most-iff}
+use Rattle.numbers.proofs.Tests.{and-iff, not-iff}
+use Rattle.reading.specs.Speed.{topSpeed}
+use Rattle.card.specs.declared.Card.{Card}
+use Rattle.card.specs.Card.{CardRanges}
+use Rattle.record.specs.declared.Record.{Record}
+use Rattle.record.specs.declared.Keys.{Keys}
+use Rattle.record.specs.Record.{RecordRanges}
+use Rattle.record.specs.Codes.{clear}
+use Rattle.signal.specs.declared.Curve.{Curve}
+use Rattle.signal.specs.declared.Signal.{Signal}
+use Rattle.signal.specs.Ranges.{CurveRanges, SignalRanges, AspectRanges, longestGap, mostRaise, oldestAge}
+use Rattle.signal.specs.Target.{target}
+use Rattle.signal.specs.Speed.{curveValue, signalSpeed}
+use Rattle.signal.specs.NewCode.{oldSpeed, manByCode, curveByCode, beforeNext, gapNext}
+use Rattle.signal.specs.Plus.{raiseNext}
+use Rattle.signal.specs.Man.{manLowered}
+use Rattle.signal.specs.Curve.{ageNow, curveHolds, curveAged}
+use Rattle.signal.specs.Aspect.{targetNow, curveNext, manNext, aspectNow}
+use Rattle.signal.proofs.Spent.{unspent}
+
+pub target-most : (card : Card) (code raise : ℕ) → CardRanges card → raise ≤ mostRaise → target card code raise ≤ topSpeed
+unfolding target
+target-most card code raise good few = simp most-iff (omega arith)
+
+pub signal-speed-most : (card : Card) (curve : Curve) (man t : ℕ) → CurveRanges curve → man ≤ topSpeed → t ≤ topSpeed
+    → signalSpeed card curve man t ≤ topSpeed
+unfolding signalSpeed curveValue
+signal-speed-most card curve man t good p q = simp most-iff (omega arith)
+
+pub man-lowered-most : (was now : ℕ) (unchanged : Bool) (t v : ℕ) → now ≤ topSpeed → manLowered was now unchanged t v ≤ topSpeed
+unfolding manLowered
+man-lowered-most was now unchanged t v p = simp most-iff (omega arith)
+
+module _ (s : Signal) (r : Record) (good : SignalRanges s) where
+  pub before-next-most : beforeNext s r ≤ clear
+  unfolding beforeNext
+  before-next-most = simp most-iff (omega arith)
+
+  pub gap-next-most : gapNext s r ≤ longestGap
+  unfolding gapNext
+  gap-next-most = simp most-iff (omega arith)
+
+  pub raise-next-most : (k : Keys) → raiseNext s r k ≤ mostRaise
+  unfolding raiseNext
+  raise-next-most k = simp (most-iff, and-iff) (omega (arith, ltb-true))
+
+module _ (card : Card) (curve : Curve) (begins : Bool) (t : ℕ) (k : Keys) (card-good : CardRanges card) (good : CurveRanges curve) where
+  -- a curve that goes on is not spent
+  young : curveHolds card curve begins t k ≡ true → ageNow curve begins ≤ oldestAge
+  unfolding curveHolds
+  young h =
+      let f = simp (and-iff, not-iff) at h in
+      omega (arith, unspent card curve t (ageNow curve begins) card-good good (eqb-false _ _ (f .1)))
+
+  pub curve-aged-ranges : CurveRanges (curveAged card curve begins t k)
+  unfolding curveAged
+  curve-aged-ranges = simp (cond-iff CurveRanges, and-iff) (omega (arith, young))
+
+module _ (card : Card) (s : Signal) (r : Record) (card-good : CardRanges card) (good : SignalRanges s) (fits : RecordRanges r) where
+  pub man-by-code-most : manByCode card s r ≤ topSpeed
+  unfolding manByCode
+  man-by-code-most = simp most-iff (omega arith)
+
+  old-speed-most : oldSpeed card s r ≤ topSpeed
+  old-speed-most = signal-speed-most _ _ _ _ (good .curve) (good .man-most) (target-most _ _ _ card-good (good .codes .raise-most))
+
+  pub curve-by-code-ranges : CurveRanges (curveByCode card s r)
+  unfolding curveByCode
+  curve-by-code-ranges = simp (cond-iff CurveRanges) (omega (arith, old-speed-most))
+
+  module _ (k : Keys) where
+    target-now-most : targetNow card s r k ≤ topSpeed
+    target-now-most = target-most _ _ _ card-good (raise-next-most _ _ good _)
+
+    curve-next-ranges : CurveRanges (curveNext card s r k)
+    curve-next-ranges = curve-aged-ranges _ _ _ _ _ card-good curve-by-code-ranges
+
+    man-next-most : manNext card s r k ≤ topSpeed
+    man-next-most = simp most-iff (omega arith, λ e. man-lowered-most _ _ _ _ _ man-by-code-most)
+
+    pub aspect-now-ranges : AspectRanges (aspectNow card s r k)
+    unfolding aspectNow
+    aspect-now-ranges = record {
+      signal = record {
+        codes = omega (arith, before-next-most s r good, gap-next-most s r good, raise-next-most s r good k);
+        curve = curve-next-ranges;
+        man-most = man-next-most;
+      };
+      target-most = target-now-most;
+      speed-most = signal-speed-most _ _ _ _ curve-next-ranges man-next-most target-now-most;
+    }
