@@ -1,16 +1,14 @@
 -- Each call's contract determines its result and every lent byte: two outcomes that satisfy it are equal.
 -- `Post` is the contract as the check reads it off the source, so a contract that says less breaks these lines.
-use mathlib.Core.Path.{_≡_, sym, _∙_}
+use mathlib.Core.Path.{_≡_}
 use denote.Ref.{now}
 use contract.Lifetimes.{Lfts}
+use Rattle.numbers.proofs.Alike.{alike}
 use Rattle.desk.proofs.Desk.open.Reads as opening
 use Rattle.desk.proofs.Desk.tick.Reads as ticking
 use Rattle.desk.proofs.Desk.step_back.Reads as backing
 use Rattle.desk.proofs.Desk.restart.Reads as restarting
 
--- both are the same third
-alike : {A : Type 0} {a x y : A} → x ≡ a → y ≡ a → x ≡ y
-alike p q = p ∙ sym q
 
 pub open-determined : (κs : Lfts 0) (a : _) (x y : _) (s t : _) → opening.Post κs a x s → opening.Post κs a y t → x ≡ y
 open-determined κs a x y s t p q = alike p q

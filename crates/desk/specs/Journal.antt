@@ -1,7 +1,8 @@
 -- The journal: the record at each place, how many it takes, and whether the first of them are in range.
-use Prim.Native.Nat.{ℕ, zero, suc, _*_, _/_, min}
+use Prim.Native.Nat.{ℕ, _*_, _/_, min}
 use mathlib.Core.List.{List}
-use mathlib.Core.Bool.{Bool, true, _&&_}
+use mathlib.Core.Bool.{Bool}
+use Rattle.numbers.specs.All.{allBelow}
 use Rattle.record.specs.declared.Record.{Record}
 use Rattle.record.specs.Record.{recordWidth, recordAt, recordInRange}
 
@@ -15,6 +16,5 @@ capacity length = min mostTicks (length / recordWidth)
 unfoldable pub records : List ℕ → ℕ → Record
 records journal i = recordAt journal (recordWidth * i)
 
-unfoldable pub allInRange : List ℕ → ℕ → Bool
-allInRange journal zero = true
-allInRange journal (suc m) = allInRange journal m && recordInRange (records journal m)
+abbrev pub allInRange : List ℕ → ℕ → Bool
+allInRange journal m = allBelow (λ i. recordInRange (records journal i)) m

@@ -1,2 +1,4 @@
-pub mod Choice
 pub mod Tests
+pub mod Choice
+pub mod All
+pub mod Alike

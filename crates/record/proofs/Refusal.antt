@@ -4,7 +4,7 @@ use Prim.Native.Nat.{ℕ, _≤_}
 use native.Mathlib.Omega.{arith}
 use mathlib.Core.Path.{_≡_, refl}
 use mathlib.Core.Bool.{Bool, true, false, cond}
-use borrow.Author.Tests.{eqb-true, eqb-false}
+use borrow.Author.Tests.{eqb-true, eqb-false, ne-eqb}
 use lib.Dec.{eqb}
 use Rattle.reading.specs.Speed.{topSpeed, speedOf, speedRefusal}
 use Rattle.reading.specs.Pressure.{pressureOf, pressureRefusal}
@@ -22,6 +22,14 @@ both-zero a b h = go (eqb a 0) refl h
     go : (t : Bool) → eqb a 0 ≡ t → cond t b a ≡ 0 → (a ≡ 0) × (b ≡ 0)
     go true e z = (eqb-true a 0 e, z)
     go false e z = absurd (eqb-false a 0 e z)
+
+pub first-zero : (b : ℕ) → firstRefusal 0 b ≡ b
+unfolding firstRefusal
+first-zero b = refl
+
+pub first-some : (a b : ℕ) → (a ≡ 0 → ⊥) → firstRefusal a b ≡ a
+unfolding firstRefusal
+first-some a b h = rw (ne-eqb a 0 h)
 
 zero-in-range : (r : Record) → recordRefusal r ≡ 0 → recordInRange r ≡ true
 unfolding recordRefusal

@@ -30,7 +30,8 @@ use Rattle.desk.specs.declared.Outcome.{Outcome}
 use Rattle.desk.specs.Journal.{capacity, records, allInRange}
 use Rattle.desk.specs.Desk.{deskInRange, freshDesk}
 use Rattle.desk.specs.Calls.{refused, accepted, openOutcome, tickNumber, tickOutcome, tickJournal, backRefusal, backOutcome, restartOutcome}
-use Rattle.desk.proofs.Journal.{each-all, room}
+use Rattle.numbers.proofs.All.{each-all}
+use Rattle.desk.proofs.Journal.{room}
 use Rattle.desk.proofs.Calls as Calls
 use Rattle.replay.specs.Demand3.{Call, Tick, Back, Restart, Drive, outcome, journalAfter, survivors, call, calls, outcomes, opened, Same, Demand3}
 

@@ -1,12 +1,12 @@
 use Prim.Native.Nat.{_≤_, _-_}
-use mathlib.Core.Path.{_≡_, refl, sym, ap, _∙_}
+use mathlib.Core.Path.{_≡_, sym, ap, _∙_}
 use mathlib.Core.Bool.{true}
 use native.Mathlib.Omega.{arith}
 use borrow.Author.Needs.{needs}
 use borrow.Author.Tests.{not-true, not-false}
 use Rattle.record.specs.Record.{recordInRange}
 use Rattle.desk.specs.Journal.{records, allInRange}
-use Rattle.desk.proofs.Journal.{all-next, all-not}
+use Rattle.numbers.proofs.All.{all-none, all-more, all-not}
 use Rattle.desk.proofs.all_in_range.Statement.{statement}
 use Rattle.desk.proofs.all_in_range.Tie as tie
 
@@ -17,8 +17,7 @@ abbrev μ-loop : tie.MeasureT-loop
 μ-loop journal m i₀ i = m - i
 
 loop-holds : tie.Need-loop-holds Inv-loop μ-loop
-unfolding allInRange
-loop-holds c = (omega arith, refl)
+loop-holds c = (omega arith, all-none _)
 
 mul-record-at : tie.Need-mul-record-at Inv-loop μ-loop
 mul-record-at c = omega arith
@@ -45,7 +44,7 @@ loop-again : tie.Need-loop-again Inv-loop μ-loop
 unfolding records
 loop-again c =
     let good = ap recordInRange (sym (c .before .before .record-at .ensures)) ∙ sym (c .before .record-in-range .ensures) ∙ not-false _ (c .if1 .left) in
-    (omega arith, all-next _ _ ∙ rw (c .before .before .before .before .loop .inv .1) good)
+    (omega arith, all-more _ _ (c .before .before .before .before .loop .inv .1) good)
 
 returns-2 : tie.Need-returns-2 Inv-loop μ-loop
 returns-2 c = let e : c .before .loop .i ≡ c .before .before .before .args .m = omega arith in sym (rw e at (c .before .loop .inv .1))

@@ -13,7 +13,7 @@ use Rattle.rules.specs.After.{after}
 use Rattle.rules.proofs.Ranges.{fresh-ranges}
 use Rattle.rules.proofs.After.{after-next}
 use Rattle.desk.specs.Journal.{records}
-use Rattle.desk.proofs.Journal.{all-each}
+use Rattle.numbers.proofs.All.{all-each}
 use Rattle.desk.proofs.rebuilt.Statement.{statement}
 use Rattle.desk.proofs.rebuilt.Tie as tie
 

@@ -1,0 +1,193 @@
+-- The starred "Numbers to try" as the rows of one table: what the definitions give, beside what the paper says.
+-- A row that speaks of ticks is read off a whole drive: every tick of it by `advance`, from a fresh desk of card K.
+use Prim.Native.Nat.{ℕ, _+_, _-_}
+use mathlib.Core.Bool.{cond}
+use mathlib.Core.List.{List, [], _∷_, map}
+use lib.ListN.{take}
+use lib.Ieee.{Float}
+use Rattle.reading.specs.Number.{quantity}
+use Rattle.reading.specs.Bits.{floatOfBits}
+use Rattle.reading.specs.Speed.{speedOf, speedValue}
+use Rattle.record.specs.Codes.{stop, warning, clear}
+use Rattle.record.specs.Flags.{vigilance, man}
+use Rattle.rules.specs.declared.Advanced.{Advanced}
+use Rattle.examples.specs.Drive.{fields, stands, drives, presses, backs, Runs, ticks, taken, atEnd}
+
+-- what the definitions give, and what the paper says it is
+pub record Row : Type 0 where
+  pub what : List ℕ
+  pub is : List ℕ
+
+-- claims about one thing, each a look at it and the number that is seen
+abbrev row : {A : Type 0} → A → List ((A → ℕ) × ℕ) → Row
+row thing claims = record { what = map (λ claim. claim .0 thing) claims; is = map (λ claim. claim .1) claims }
+
+-- claims about the end of a drive, whose ticks are all taken
+abbrev driven : Runs → List ((Advanced → ℕ) × ℕ) → Row
+driven runs claims = row (atEnd runs) ((λ x. cond (taken runs) 1 0, 1) ∷ claims)
+
+-- ---- looks at a float in m/s: the fraction that it is; v
+abbrev numerator : Float → ℕ
+numerator x = quantity 0 (λ n d. n) x
+
+abbrev denominator : Float → ℕ
+denominator x = quantity 0 (λ n d. d) x
+
+abbrev tenths : Float → ℕ
+tenths x = speedValue (speedOf x)
+
+-- ---- looks at the answer: P, T, marks, causes, lowest cause
+abbrev permitted : Advanced → ℕ
+permitted x = x .answer .permitted
+
+abbrev target : Advanced → ℕ
+target x = x .answer .target
+
+abbrev marks : Advanced → ℕ
+marks x = x .answer .marks
+
+abbrev causes : Advanced → ℕ
+causes x = x .answer .causes
+
+abbrev lowest : Advanced → ℕ
+lowest x = x .answer .lowest
+
+-- in the marks: a curve, a one-time prompt, its kind 1
+abbrev curveMark : ℕ
+curveMark = 2
+
+abbrev promptMark : ℕ
+promptMark = 8
+
+abbrev kindMark : ℕ
+kindMark = 16
+
+-- in the causes
+abbrev nz2 : ℕ
+nz2 = 2
+
+abbrev nz3 : ℕ
+nz3 = 4
+
+-- ---- looks at the state: V0, c and w of the curve; M; kind and q of cyclic vigilance
+abbrev start : Advanced → ℕ
+start x = x .state .signal .curve .start
+
+abbrev age : Advanced → ℕ
+age x = x .state .signal .curve .age
+
+abbrev given : Advanced → ℕ
+given x = x .state .signal .curve .given
+
+abbrev manSpeed : Advanced → ℕ
+manSpeed x = x .state .signal .man
+
+abbrev kind : Advanced → ℕ
+kind x = x .state .watch .kind
+
+abbrev count : Advanced → ℕ
+count x = x .state .watch .ticks
+
+-- ---- the drives
+
+-- Clear, then another code up to age c of its curve. The train stands, so that nothing but the curve goes on
+abbrev clearTo : ℕ → ℕ → Runs
+clearTo code c = (10, stands clear) ∷ (1 + c, stands code) ∷ []
+
+-- at v, Clear to Stop, up to age c of the curve
+abbrev toStop : ℕ → ℕ → Runs
+toStop v c = (10, stands clear) ∷ (10, drives v clear) ∷ (1 + c, drives v stop) ∷ []
+
+-- the same, with a vigilance press at age 1, which confirms the start prompt
+abbrev confirmed : ℕ → ℕ → Runs
+confirmed v c =
+    (10, stands clear)
+    ∷ (10, drives v clear)
+    ∷ (1, drives v stop)
+    ∷ (1, presses vigilance v stop)
+    ∷ (c - 1, drives v stop)
+    ∷ []
+
+-- MAN entered at v by a press, under Stop with its curve running; then a tick at each of the next speeds
+abbrev underMan : ℕ → List ℕ → Runs
+underMan v next =
+    (10, stands clear)
+    ∷ (10, drives v clear)
+    ∷ (10, drives v stop)
+    ∷ (1, presses man v stop)
+    ∷ map (λ w. (1, drives w stop)) next
+
+-- a tick at v under Clear
+abbrev clearAt : ℕ → Runs
+clearAt v = (10, stands clear) ∷ (1, drives v clear) ∷ []
+
+-- n ticks backward at v, the lever forward
+abbrev wrongWay : ℕ → ℕ → Runs
+wrongWay v n = (10, stands clear) ∷ (n, backs v clear) ∷ []
+
+-- Warning without a curve at 1000, until the count of increased vigilance is q
+abbrev increased : ℕ → Runs
+increased q = (10, stands warning) ∷ (1 + q, drives 1000 warning) ∷ []
+
+-- the same, then a press
+abbrev pressedAt : ℕ → Runs
+pressedAt q = (10, stands warning) ∷ (1 + q, drives 1000 warning) ∷ (1, presses vigilance 1000 warning) ∷ []
+
+-- the exercise that the paper prints, and its line after some runs: the ticks so far, P, T, causes, lowest cause
+abbrev exercise : Runs
+exercise =
+    (10, fields 0 4 2 1 72 2 0)
+    ∷ (100, fields 1200 4 2 1 64 2 1)
+    ∷ (100, fields 1200 2 2 1 64 2 1)
+    ∷ (1, fields 1200 2 2 1 64 2 1)
+    ∷ (1, fields 0 2 2 1 73 2 0)
+    ∷ []
+
+abbrev line : Runs → ℕ → ℕ → ℕ → ℕ → ℕ → Row
+line runs n p t held first =
+    driven runs ((λ x. ticks runs, n) ∷ (permitted, p) ∷ (target, t) ∷ (causes, held) ∷ (lowest, first) ∷ [])
+
+-- ---- the table, in the paper's order
+unfoldable pub rows : List Row
+rows =
+    -- "0.125 m/s is 5; 10 is 360": 1 / 8 and 10 / 1, by their bits
+    row (floatOfBits 0x3e000000) ((numerator, 1) ∷ (denominator, 8) ∷ (tenths, 5) ∷ [])
+    ∷ row (floatOfBits 0x41200000) ((numerator, 10) ∷ (denominator, 1) ∷ (tenths, 360) ∷ [])
+    -- "Clear to Warning: 1201 at age 222, ends at 223": P is the signal speed where that is below 1400
+    ∷ driven (clearTo warning 222) ((age, 222) ∷ (permitted, 1201) ∷ (marks, curveMark) ∷ [])
+    ∷ driven (clearTo warning 223) ((start, 0) ∷ (permitted, 1200) ∷ (marks, 0) ∷ [])
+    -- "Clear to Stop: 2 at 888, ends at 889"
+    ∷ driven (clearTo stop 888) ((age, 888) ∷ (permitted, 2) ∷ (marks, curveMark) ∷ [])
+    ∷ driven (clearTo stop 889) ((start, 0) ∷ (permitted, 0) ∷ (marks, 0) ∷ [])
+    -- "v 1200, Clear to Stop: start prompt, then D first true at age 140": D(c + R) gives the prompt of kind 1 and sets w
+    ∷ driven (toStop 1200 0) ((age, 0) ∷ (marks, curveMark + promptMark) ∷ (given, 0) ∷ [])
+    ∷ driven (confirmed 1200 139) ((age, 139) ∷ (marks, curveMark) ∷ (given, 0) ∷ [])
+    ∷ driven (confirmed 1200 140) ((age, 140) ∷ (marks, curveMark + promptMark + kindMark) ∷ (given, 1) ∷ [])
+    -- "v 1400: age 29, no start prompt"
+    ∷ driven (toStop 1400 0) ((age, 0) ∷ (marks, curveMark) ∷ (given, 0) ∷ [])
+    ∷ driven (toStop 1400 28) ((age, 28) ∷ (marks, curveMark) ∷ (given, 0) ∷ [])
+    ∷ driven (toStop 1400 29) ((age, 29) ∷ (marks, curveMark + promptMark + kindMark) ∷ (given, 1) ∷ [])
+    -- "MAN entered at 1350, then 1300, 1320, 1100, 1250: M is 1350, 1300, 1300, 1200, 1200 (Stop)"
+    ∷ driven (underMan 1350 []) ((manSpeed, 1350) ∷ [])
+    ∷ driven (underMan 1350 (1300 ∷ [])) ((manSpeed, 1300) ∷ [])
+    ∷ driven (underMan 1350 (1300 ∷ 1320 ∷ [])) ((manSpeed, 1300) ∷ [])
+    ∷ driven (underMan 1350 (1300 ∷ 1320 ∷ 1100 ∷ [])) ((manSpeed, 1200) ∷ [])
+    ∷ driven (underMan 1350 (1300 ∷ 1320 ∷ 1100 ∷ 1250 ∷ [])) ((manSpeed, 1200) ∷ [])
+    -- "P 1400: 1430 passes, 1431 triggers"
+    ∷ driven (clearAt 1430) ((permitted, 1400) ∷ (causes, 0) ∷ [])
+    ∷ driven (clearAt 1431) ((permitted, 1400) ∷ (causes, nz2) ∷ [])
+    -- "Wrong way at 360: tick 10 triggers, 9 not"
+    ∷ driven (wrongWay 360 10) ((causes, nz3) ∷ [])
+    ∷ driven (wrongWay 360 9) ((causes, 0) ∷ [])
+    -- "Increased: press at old q 84 ignored, 85 taken"
+    ∷ driven (increased 84) ((kind, 2) ∷ (count, 84) ∷ [])
+    ∷ driven (pressedAt 84) ((kind, 2) ∷ (count, 85) ∷ [])
+    ∷ driven (increased 85) ((kind, 2) ∷ (count, 85) ∷ [])
+    ∷ driven (pressedAt 85) ((kind, 2) ∷ (count, 0) ∷ [])
+    -- the lines that the exercise prints
+    ∷ line (take 1 exercise) 10 1400 1600 0 0
+    ∷ line (take 2 exercise) 110 1400 1600 0 0
+    ∷ line (take 3 exercise) 210 1400 1200 0 0
+    ∷ line (take 4 exercise) 211 1400 1200 1 1
+    ∷ line (take 5 exercise) 212 1400 1200 0 0
+    ∷ []

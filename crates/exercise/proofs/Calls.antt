@@ -1,0 +1,176 @@
+-- Laws of the calls: which refusal a test that fails comes to, what an accepted run says, and what is returned then and else.
+-- By the chain of numbers, first to last.
+use Prim.Native.Nat.{ℕ, _+_, _-_, _*_, _≤_, _<_}
+use native.Mathlib.Omega.{arith}
+use mathlib.Core.Path.{_≡_, refl, sym, ap, _∙_}
+use mathlib.Core.Bool.{Bool, true, false, not, _&&_, cond, and-false}
+use mathlib.Core.List.{List}
+use lib.Dec.{leb, ltb, eqb}
+use lib.ListN.{length}
+use borrow.Author.Tests.{eqb-true, eq-eqb, ne-eqb, le-leb, lt-leb, lt-ltb, le-ltb, ltb-false, not-false}
+use Rattle.numbers.proofs.Tests.{and-iff, leb-iff}
+use Rattle.numbers.proofs.All.{all-each}
+use Rattle.layout.specs.Layout.{written}
+use Rattle.card.specs.Card.{CardRanges, cardInRange}
+use Rattle.card.proofs.Ranges.{card-ranges}
+use Rattle.record.specs.Sample.{firstRefusal}
+use Rattle.record.proofs.Refusal.{both-zero, first-zero, first-some}
+use Rattle.exercise.specs.File.{mostRuns, headerGood, cardCount, runCount, cardIn, cardsInRange}
+use Rattle.exercise.specs.Runs.{ticksTo, runsRefusal}
+use Rattle.exercise.specs.declared.Ran.{Ran}
+use Rattle.exercise.proofs.Runs.{fault, runs-first}
+use Rattle.exercise.specs.Answers.{answerWidth, answers}
+use Rattle.exercise.specs.Calls.{tickCount, drive, runsRead, cardsRefusal, readRefusal, readOutcome, runRefusal, runOutcome, runBuffer}
+
+-- a number that one of two gives where a test fails
+zero-of : (b : Bool) (k : ℕ) → 0 < k → cond b 0 k ≡ 0 → b ≡ true
+zero-of true k h e = refl
+zero-of false k h e = absurd (omega arith)
+
+zero-if : (b : Bool) (k x : ℕ) → 0 < k → cond (not b) k x ≡ 0 → (b ≡ true) × (x ≡ 0)
+zero-if true k x h e = (refl, e)
+zero-if false k x h e = absurd (omega arith)
+
+module _ (file : List ℕ) where
+  abbrev runs : ℕ
+  runs = runsRefusal file (runCount file)
+
+  -- ---- the runs
+  pub runs-yes : runs ≡ 0 → runsRead file ≡ record { refusal = 0; ticks = tickCount file }
+  unfolding runsRead
+  runs-yes h = rw (eq-eqb _ _ h)
+
+  pub runs-no : (runs ≡ 0 → ⊥) → runsRead file ≡ record { refusal = runs; ticks = 0 }
+  unfolding runsRead
+  runs-no h = rw (ne-eqb _ _ h)
+
+  pub runs-number : runsRead file .refusal ≡ runs
+  unfolding runsRead
+  runs-number = go (eqb runs 0) refl
+    where
+      go : (b : Bool) → eqb runs 0 ≡ b → runsRead file .refusal ≡ runs
+      go true e = rw e (sym (eqb-true runs 0 e))
+      go false e = rw e
+
+  -- at the first fault, and at the end
+  pub runs-stopped : (runs j q : ℕ) → runs ≡ runCount file → j < runs → runsRefusal file j ≡ 0 → q ≡ fault file j → (q ≡ 0 → ⊥)
+      → _≡_ {A = Ran} (record { refusal = q; ticks = 0 }) (runsRead file)
+  runs-stopped m j q n l h e f =
+      let all : runsRefusal file (runCount file) ≡ q = ap (runsRefusal file) (sym n) ∙ runs-first file j m l h (λ z. f (e ∙ z)) ∙ sym e in
+      sym (runs-no (λ z. f (sym all ∙ z)) ∙ ap (λ (x : ℕ). record { refusal = x; ticks = 0 }) all)
+
+  pub runs-done : (runs j sum : ℕ) → runs ≡ runCount file → j ≡ runs → sum ≡ ticksTo file j → runsRefusal file j ≡ 0
+      → _≡_ {A = Ran} (record { refusal = 0; ticks = sum }) (runsRead file)
+  runs-done m j sum n l e h =
+      let at : j ≡ runCount file = l ∙ n in
+      ap (λ (x : ℕ). record { refusal = 0; ticks = x }) (e ∙ ap (ticksTo file) at) ∙ sym (runs-yes (rw at at h))
+
+  -- ---- the reader
+  pub read-by-cards : (cardsRefusal file ≡ 0 → ⊥) → readOutcome file ≡ record { refusal = cardsRefusal file; cards = 0; runs = 0; ticks = 0 }
+  unfolding readOutcome readRefusal
+  read-by-cards h = rw (first-some _ _ h, ne-eqb _ _ h)
+
+  pub read-by-runs : cardsRefusal file ≡ 0 → (runs ≡ 0 → ⊥) → readOutcome file ≡ record { refusal = runs; cards = 0; runs = 0; ticks = 0 }
+  unfolding readOutcome readRefusal
+  read-by-runs h k = rw (h, first-zero, ne-eqb _ _ k)
+
+  pub read-by-none : cardsRefusal file ≡ 0 → runs ≡ 0 → readOutcome file ≡ record { refusal = 0; cards = cardCount file; runs = runCount file; ticks = tickCount file }
+  unfolding readOutcome readRefusal
+  read-by-none h k = rw (h, first-zero, k)
+
+  cards-good : cardsRefusal file ≡ 0 → (runCount file ≤ mostRuns) × (cardsInRange file (cardCount file) ≡ true)
+  unfolding cardsRefusal headerGood
+  cards-good h =
+      let a = zero-if (headerGood file) 10 _ (omega arith) h in
+      let f = simp (and-iff, leb-iff) at (a .0) in
+      (omega (arith, f), zero-if (cardsInRange file (cardCount file)) 4 0 (omega arith) (a .1) .0)
+
+-- ---- a run
+module _ (file : List ℕ) (card room : ℕ) where
+  module _ (number : ℕ) (some : number ≡ 0 → ⊥) where
+    run-refused : runRefusal file card room ≡ number → runOutcome file card room ≡ record { refusal = number; ticks = 0 }
+    unfolding runOutcome
+    run-refused e = rw (e, ne-eqb _ _ some)
+
+  pub run-by-cards : (cardsRefusal file ≡ 0 → ⊥) → runOutcome file card room ≡ record { refusal = cardsRefusal file; ticks = 0 }
+  unfolding runRefusal
+  run-by-cards h = run-refused _ h (first-some _ _ h)
+
+  module _ (h : cardsRefusal file ≡ 0) where
+    no-card : (leb 1 card && leb card (cardCount file)) ≡ false → runOutcome file card room ≡ record { refusal = 13; ticks = 0 }
+    unfolding runRefusal
+    no-card e = run-refused 13 (λ z. omega arith) (rw (h, first-zero, e) (first-some 13 _ (λ z. omega arith)))
+
+    pub run-by-low : card < 1 → runOutcome file card room ≡ record { refusal = 13; ticks = 0 }
+    run-by-low l = no-card (rw (lt-leb 1 card l))
+
+    pub run-by-high : cardCount file < card → runOutcome file card room ≡ record { refusal = 13; ticks = 0 }
+    run-by-high l = no-card (rw (lt-leb card (cardCount file) l) (and-false (leb 1 card)))
+
+    module _ (low : 1 ≤ card) (high : card ≤ cardCount file) where
+      pub run-by-runs : (runs file ≡ 0 → ⊥) → runOutcome file card room ≡ record { refusal = runs file; ticks = 0 }
+      unfolding runRefusal
+      run-by-runs k = run-refused _ k (rw (h, first-zero, le-leb _ _ low, le-leb _ _ high, first-zero) (first-some _ _ k))
+
+      module _ (k : runs file ≡ 0) where
+        pub run-by-room : room < answerWidth * tickCount file → runOutcome file card room ≡ record { refusal = 12; ticks = 0 }
+        unfolding runRefusal
+        run-by-room l =
+            run-refused 12 (λ z. omega arith)
+            (rw (h, first-zero, le-leb _ _ low, le-leb _ _ high, first-zero, k, first-zero, lt-ltb _ _ l))
+
+        pub run-by-none : answerWidth * tickCount file ≤ room → runOutcome file card room ≡ record { refusal = 0; ticks = tickCount file }
+        unfolding runRefusal runOutcome
+        run-by-none l = rw (h, first-zero, le-leb _ _ low, le-leb _ _ high, first-zero, k, first-zero, le-ltb _ _ l)
+
+  pub run-number : runOutcome file card room .refusal ≡ runRefusal file card room
+  unfolding runOutcome
+  run-number = go (eqb (runRefusal file card room) 0) refl
+    where
+      go : (b : Bool) → eqb (runRefusal file card room) 0 ≡ b → runOutcome file card room .refusal ≡ runRefusal file card room
+      go true e = rw e (sym (eqb-true _ 0 e))
+      go false e = rw e
+
+  pub run-ticks : runRefusal file card room ≡ 0 → runOutcome file card room .ticks ≡ tickCount file
+  unfolding runOutcome
+  run-ticks e = rw e
+
+-- what an accepted run says
+pub record RunTaken (file : List ℕ) (card room : ℕ) : Type 0 where
+  pub low : 1 ≤ card
+  pub high : card ≤ cardCount file
+  pub card-good : CardRanges (cardIn file (card - 1))
+  pub runs-most : runCount file ≤ mostRuns
+  pub runs-good : runsRefusal file (runCount file) ≡ 0
+  pub fits : answerWidth * tickCount file ≤ room
+
+pub run-taken : (file : List ℕ) (card room : ℕ) → runRefusal file card room ≡ 0 → RunTaken file card room
+unfolding runRefusal
+run-taken file card room e =
+    let a = both-zero (cardsRefusal file) _ e in
+    let b = both-zero (cond (leb 1 card && leb card (cardCount file)) 0 13) _ (a .1) in
+    let c = both-zero (runsRefusal file (runCount file)) _ (b .1) in
+    let there = and-iff (leb 1 card) (leb card (cardCount file)) .0 (zero-of (leb 1 card && leb card (cardCount file)) 13 (omega arith) (b .0)) in
+    let low : 1 ≤ card = leb-iff _ _ .0 (there .0) in
+    let high : card ≤ cardCount file = leb-iff _ _ .0 (there .1) in
+    record {
+      low = low;
+      high = high;
+      card-good = card-ranges _ (all-each (λ i. cardInRange (cardIn file i)) (card - 1) (cardCount file) (omega arith) (cards-good file (a .0) .1));
+      runs-most = cards-good file (a .0) .0;
+      runs-good = c .0;
+      fits = ltb-false _ _ (room-left (ltb room (answerWidth * tickCount file)) (c .1)) }
+  where
+    room-left : (b : Bool) → _≡_ {A = ℕ} (cond b 12 0) 0 → b ≡ false
+    room-left true e = absurd (omega arith)
+    room-left false e = refl
+
+module _ (file : List ℕ) (card : ℕ) (buffer : List ℕ) where
+  pub buffer-yes : runRefusal file card (length buffer) ≡ 0 →
+      runBuffer file card buffer ≡ written buffer 0 (answers (cardIn file (card - 1)) (drive file) (tickCount file))
+  unfolding runBuffer
+  buffer-yes e = rw (eq-eqb _ _ e)
+
+  pub buffer-no : (runRefusal file card (length buffer) ≡ 0 → ⊥) → runBuffer file card buffer ≡ buffer
+  unfolding runBuffer
+  buffer-no e = rw (ne-eqb _ _ e)

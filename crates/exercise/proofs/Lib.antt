@@ -1,0 +1,4 @@
+pub mod Runs
+pub mod Calls
+pub mod Buffer
+pub mod Determined

@@ -1,0 +1,70 @@
+use Prim.Native.Nat.{_≤_, _-_}
+use mathlib.Core.Path.{_≡_, sym, ap, _∙_}
+use mathlib.Core.Bool.{true}
+use native.Mathlib.Omega.{arith}
+use borrow.Author.Needs.{needs}
+use borrow.Author.Tests.{not-true, not-false}
+use Rattle.numbers.proofs.All.{all-none, all-more, all-not}
+use Rattle.card.specs.Card.{cardInRange}
+use Rattle.exercise.specs.File.{cardIn, cardsInRange}
+use Rattle.exercise.proofs.cards_in_range.Statement.{statement}
+use Rattle.exercise.proofs.cards_in_range.Tie as tie
+
+abbrev Inv-loop : tie.InvT-loop
+Inv-loop file cards i₀ i = (i ≤ cards) × (cardsInRange file i ≡ true)
+
+abbrev μ-loop : tie.MeasureT-loop
+μ-loop file cards i₀ i = cards - i
+
+loop-holds : tie.Need-loop-holds Inv-loop μ-loop
+loop-holds c = (omega arith, all-none _)
+
+mul-card-at : tie.Need-mul-card-at Inv-loop μ-loop
+mul-card-at c = omega arith
+
+add-card-at : tie.Need-add-card-at Inv-loop μ-loop
+add-card-at c = omega arith
+
+card-at-requires : tie.Need-card-at-requires Inv-loop μ-loop
+card-at-requires c κs = search needs
+
+card-in-range-requires : tie.Need-card-in-range-requires Inv-loop μ-loop
+card-in-range-requires c κs = search needs
+
+returns : tie.Need-returns Inv-loop μ-loop
+unfolding cardIn
+returns c =
+    let bad = ap cardInRange (sym (c .before .before .card-at .ensures)) ∙ sym (c .before .card-in-range .ensures) ∙ not-true _ (c .if1 .taken) in
+    sym (all-not _ _ _ (c .before .before .before .loop-test .taken) bad)
+
+add-i : tie.Need-add-i Inv-loop μ-loop
+add-i c = omega arith
+
+loop-less : tie.Need-loop-less Inv-loop μ-loop
+loop-less c = omega arith
+
+loop-again : tie.Need-loop-again Inv-loop μ-loop
+unfolding cardIn
+loop-again c =
+    let good = ap cardInRange (sym (c .before .before .card-at .ensures)) ∙ sym (c .before .card-in-range .ensures) ∙ not-false _ (c .if1 .left) in
+    (omega arith, all-more _ _ (c .before .before .before .before .loop .inv .1) good)
+
+returns-2 : tie.Need-returns-2 Inv-loop μ-loop
+returns-2 c = let e : c .before .loop .i ≡ c .before .before .before .args .cards = omega arith in sym (rw e at (c .before .loop .inv .1))
+
+pub cards-in-range-spec : {M : Type 1} → statement M
+cards-in-range-spec =
+    tie.close
+    (tie.spec
+    Inv-loop
+    μ-loop
+    loop-holds
+    mul-card-at
+    add-card-at
+    card-at-requires
+    card-in-range-requires
+    returns
+    add-i
+    loop-less
+    loop-again
+    returns-2)

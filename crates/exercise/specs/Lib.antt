@@ -1,0 +1,5 @@
+pub mod File
+pub mod Runs
+pub mod Place
+pub mod Answers
+pub mod Calls

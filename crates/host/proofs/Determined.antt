@@ -1,0 +1,10 @@
+-- The host call's contract determines the number and every byte of the buffer: two outcomes that satisfy it are equal.
+-- `Post` is the contract as the check reads it off the source; `s .1 .1 .0` is the buffer, the third parameter, at exit.
+use mathlib.Core.Path.{_≡_}
+use denote.Ref.{now}
+use contract.Lifetimes.{Lfts}
+use Rattle.numbers.proofs.Alike.{alike}
+use Rattle.host.proofs.foldharbor_run_exercise.Reads as calling
+
+pub call-determined : (κs : Lfts 2) (a : _) (x y : _) (s t : _) → calling.Post κs a x s → calling.Post κs a y t → (x ≡ y) × (now (s .1 .1 .0) ≡ now (t .1 .1 .0))
+call-determined κs a x y s t p q = (alike (p .0) (q .0), alike (p .1) (q .1))

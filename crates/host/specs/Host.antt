@@ -1,0 +1,8 @@
+-- What the host program gets: the tick count, or 10,000 plus the refusal's number.
+use Prim.Native.Nat.{ℕ, _+_}
+use mathlib.Core.Bool.{cond}
+use lib.Dec.{eqb}
+use Rattle.exercise.specs.declared.Ran.{Ran}
+
+unfoldable pub hostNumber : Ran → ℕ
+hostNumber ran = cond (eqb (ran .refusal) 0) (ran .ticks) (10000 + ran .refusal)

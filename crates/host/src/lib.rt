@@ -1,0 +1,20 @@
+// The call that a host program links: host/foldharbor.h declares it for C and C++.
+ghost use mathlib.Core.Path.{_≡_};
+ghost use lib.ListN.{length};
+ghost use Rattle.exercise.specs.Calls.{runOutcome, runBuffer};
+ghost use Rattle.host.specs.Host.{hostNumber};
+
+// A refusal is this plus its number.
+const REFUSED: u32 = 10000;
+
+#[no_mangle]
+pub extern "C" fn foldharbor_run_exercise(exercise: &[u8], card: u32, answers: &mut [u8]) -> u32
+    ensures number { λ r. ⌜ r ≡ hostNumber (runOutcome (now (exercise .entry)) card (length (now (answers .entry)))) ⌝ }
+    ensures answers { λ r. ⌜ now (answers .exit) ≡ runBuffer (now (exercise .entry)) card (now (answers .entry)) ⌝ }
+{
+    let ran = exercise::run(exercise, card, answers);
+    if ran.refusal != 0 {
+        return REFUSED + (ran.refusal as u32);
+    }
+    ran.ticks as u32
+}
