@@ -9,7 +9,6 @@ use Rattle.desk.proofs.Desk.tick.Reads as ticking
 use Rattle.desk.proofs.Desk.step_back.Reads as backing
 use Rattle.desk.proofs.Desk.restart.Reads as restarting
 
-
 pub open-determined : (κs : Lfts 0) (a : _) (x y : _) (s t : _) → opening.Post κs a x s → opening.Post κs a y t → x ≡ y
 open-determined κs a x y s t p q = alike p q
 

@@ -159,7 +159,8 @@ run-taken file card room e =
       card-good = card-ranges _ (all-each (λ i. cardInRange (cardIn file i)) (card - 1) (cardCount file) (omega arith) (cards-good file (a .0) .1));
       runs-most = cards-good file (a .0) .0;
       runs-good = c .0;
-      fits = ltb-false _ _ (room-left (ltb room (answerWidth * tickCount file)) (c .1)) }
+      fits = ltb-false _ _ (room-left (ltb room (answerWidth * tickCount file)) (c .1));
+    }
   where
     room-left : (b : Bool) → _≡_ {A = ℕ} (cond b 12 0) 0 → b ≡ false
     room-left true e = absurd (omega arith)

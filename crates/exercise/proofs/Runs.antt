@@ -132,7 +132,8 @@ module _ (file : List ℕ) (i : ℕ) (p : Place) (g : PlaceGood file i p) where
         end-is = g .end-is;
         within = omega arith;
         begun-most = g .begun-most;
-        current = λ j e. let c = g .current j e in (c .0, let l = c .1 in omega arith) }
+        current = λ j e. let c = g .current j e in (c .0, let l = c .1 in omega arith);
+      }
 
   module _ (none : runsRefusal file (runCount file) ≡ 0) (left : p .end ≤ i) (more : i < ticksTo file (runCount file)) where
     pub place-here : i ≡ p .end
@@ -158,6 +159,7 @@ module _ (file : List ℕ) (i : ℕ) (p : Place) (g : PlaceGood file i p) where
             begun-most = omega arith;
             current = λ j q.
                 let b : j ≡ p .begun = omega arith in
-                (e ∙ ap (runRecord file) (sym b), let z = g .end-is in let y = ap (ticksTo file) b in omega arith) },
+                (e ∙ ap (runRecord file) (sym b), let z = g .end-is in let y = ap (ticksTo file) b in omega arith);
+          },
           omega arith,
         )

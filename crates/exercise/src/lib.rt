@@ -10,12 +10,11 @@ ghost use Rattle.exercise.specs.Runs.{runFault, runsRefusal};
 ghost use Rattle.exercise.specs.Place.{PlaceGood};
 ghost use Rattle.exercise.specs.Answers.{answerWidth, answerBytes, answers};
 ghost use Rattle.exercise.specs.Calls.{tickCount, drive, runsRead, cardsRefusal, readOutcome, runOutcome, runBuffer};
-
-use card::Card;
 use card::CARD_WIDTH;
+use card::Card;
 use layout::u16_at;
-use record::Record;
 use record::RECORD_WIDTH;
+use record::Record;
 use rules::Answer;
 
 // What the reader found: the number of its refusal, 0 where there is none, and the counts.
@@ -113,6 +112,13 @@ fn run_ticks(file: &[u8], j: usize) -> usize
     ensures { λ x. ⌜ (x ≡ runTicks (now (file .entry)) j) × (x ≤ 65535) ⌝ }
 {
     u16_at(file, runs_from(file), RUN_WIDTH * j) as usize
+}
+
+// The ticks of the run at a place, from 0.
+pub fn run_length(file: &[u8], j: u16) -> u16
+    ensures { λ x. ⌜ x ≡ runTicks (now (file .entry)) j ⌝ }
+{
+    run_ticks(file, j as usize) as u16
 }
 
 fn run_record(file: &[u8], j: usize) -> Record

@@ -2,39 +2,27 @@ use Rattle.exercise.specs.Calls.{cardsRefusal}
 use borrow.Author.Needs.{needs}
 use Rattle.exercise.proofs.cards_refusal.Statement.{statement}
 use Rattle.exercise.proofs.cards_refusal.Tie as tie
-use Rattle.exercise.proofs.cards_refusal.Reads as reads
-use Rattle.exercise.proofs.cards_refusal.Lts as lts
-use Rattle.exercise.proofs.cards_in_range.Reads as cards-in-range-reads
-use Rattle.exercise.proofs.header_good.Reads as header-good-reads
-use Rattle.layout.proofs.u16_at.Reads as u16-at-reads
 
--- src/lib.rt:102:9
 header-good-requires : tie.Need-header-good-requires
 header-good-requires c κs = search needs
 
--- src/lib.rt:103:9
 returns : tie.Need-returns
 unfolding cardsRefusal
 returns c = simp (c .if1 .taken, ← c .before .header-good .ensures)
 
--- src/lib.rt:105:30
 u16-at-requires : tie.Need-u16-at-requires
 u16-at-requires c κs = search needs
 
--- src/lib.rt:105:30
 cast-cards-in-range : tie.Need-cast-cards-in-range
 cast-cards-in-range c = search needs
 
--- src/lib.rt:105:9
 cards-in-range-requires : tie.Need-cards-in-range-requires
 cards-in-range-requires c κs = search needs
 
--- src/lib.rt:106:9
 returns-2 : tie.Need-returns-2
 unfolding cardsRefusal
 returns-2 c = simp (c .if2 .taken, ← c .before .cards-in-range .ensures, ← c .before .before .u16-at .ensures, c .before .before .before .if1 .left, ← c .before .before .before .before .header-good .ensures)
 
--- src/lib.rt:99:1
 returns-3 : tie.Need-returns-3
 unfolding cardsRefusal
 returns-3 c = simp (c .if2 .left, ← c .before .cards-in-range .ensures, ← c .before .before .u16-at .ensures, c .before .before .before .if1 .left, ← c .before .before .before .before .header-good .ensures)

@@ -2,61 +2,43 @@ use Rattle.exercise.specs.File.{headerGood}
 use borrow.Author.Needs.{needs}
 use Rattle.exercise.proofs.header_good.Statement.{statement}
 use Rattle.exercise.proofs.header_good.Tie as tie
-use Rattle.exercise.proofs.header_good.Reads as reads
-use Rattle.exercise.proofs.header_good.Lts as lts
-use Rattle.exercise.proofs.run_count.Reads as run-count-reads
-use Rattle.exercise.proofs.runs_from.Reads as runs-from-reads
-use Rattle.layout.proofs.u16_at.Reads as u16-at-reads
 
--- src/lib.rt:68:17
 u16-at-requires : tie.Need-u16-at-requires
 u16-at-requires c κs = search needs
 
--- src/lib.rt:68:17
 cast-cards : tie.Need-cast-cards
 cast-cards c = search needs
 
--- src/lib.rt:69:9
 run-count-requires : tie.Need-run-count-requires
 run-count-requires c κs = search needs
 
--- src/lib.rt:70:9
 runs-from-requires : tie.Need-runs-from-requires
 runs-from-requires c κs = search needs
 
--- src/lib.rt:71:22
 mul-end : tie.Need-mul-end
 mul-end c = search needs
 
--- src/lib.rt:71:15
 add-end : tie.Need-add-end
 add-end c = search needs
 
--- src/lib.rt:72:20
 u16-at-requires-2 : tie.Need-u16-at-requires-2
 u16-at-requires-2 c κs = search needs
 
--- src/lib.rt:72:20
 cast-cards-at : tie.Need-cast-cards-at
 cast-cards-at c = search needs
 
--- src/lib.rt:73:19
 u16-at-requires-3 : tie.Need-u16-at-requires-3
 u16-at-requires-3 c κs = search needs
 
--- src/lib.rt:73:19
 cast-runs-at : tie.Need-cast-runs-at
 cast-runs-at c = search needs
 
--- src/lib.rt:74:17
 u16-at-requires-4 : tie.Need-u16-at-requires-4
 u16-at-requires-4 c κs = search needs
 
--- src/lib.rt:74:17
 cast-total : tie.Need-cast-total
 cast-total c = search needs
 
--- src/lib.rt:65:1
 returns : tie.Need-returns
 unfolding headerGood
 returns c =

@@ -2,32 +2,22 @@ use Rattle.exercise.specs.File.{runRecord}
 use borrow.Author.Needs.{needs}
 use Rattle.exercise.proofs.run_record.Statement.{statement}
 use Rattle.exercise.proofs.run_record.Tie as tie
-use Rattle.exercise.proofs.run_record.Reads as reads
-use Rattle.exercise.proofs.run_record.Lts as lts
-use Rattle.exercise.proofs.runs_from.Reads as runs-from-reads
-use Rattle.record.proofs.record_at.Reads as record-at-reads
 
--- src/lib.rt:122:29
 runs-from-requires : tie.Need-runs-from-requires
 runs-from-requires c κs = search needs
 
--- src/lib.rt:122:47
 mul-record-at : tie.Need-mul-record-at
 mul-record-at c = search needs
 
--- src/lib.rt:122:29
 add-record-at : tie.Need-add-record-at
 add-record-at c = search needs
 
--- src/lib.rt:122:29
 add-record-at-2 : tie.Need-add-record-at-2
 add-record-at-2 c = search needs
 
--- src/lib.rt:122:5
 record-at-requires : tie.Need-record-at-requires
 record-at-requires c κs = search needs
 
--- src/lib.rt:118:1
 returns : tie.Need-returns
 unfolding runRecord
 returns c = simp (← c .record-at .ensures, ← c .before .runs-from .ensures .0)

@@ -2,28 +2,19 @@ use Rattle.exercise.specs.File.{runTicks}
 use borrow.Author.Needs.{needs}
 use Rattle.exercise.proofs.run_ticks.Statement.{statement}
 use Rattle.exercise.proofs.run_ticks.Tie as tie
-use Rattle.exercise.proofs.run_ticks.Reads as reads
-use Rattle.exercise.proofs.run_ticks.Lts as lts
-use Rattle.exercise.proofs.runs_from.Reads as runs-from-reads
-use Rattle.layout.proofs.u16_at.Reads as u16-at-reads
 
--- src/lib.rt:115:18
 runs-from-requires : tie.Need-runs-from-requires
 runs-from-requires c κs = search needs
 
--- src/lib.rt:115:35
 mul-u16-at : tie.Need-mul-u16-at
 mul-u16-at c = search needs
 
--- src/lib.rt:115:5
 u16-at-requires : tie.Need-u16-at-requires
 u16-at-requires c κs = search needs
 
--- src/lib.rt:115:5
 cast-result : tie.Need-cast-result
 cast-result c = search needs
 
--- src/lib.rt:111:1
 returns : tie.Need-returns
 unfolding runTicks
 returns c = (simp (← c .u16-at .ensures, ← c .before .runs-from .ensures .0), search needs)

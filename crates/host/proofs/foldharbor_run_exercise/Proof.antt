@@ -3,42 +3,31 @@ use borrow.Author.Tests.{eq-eqb, ne-eqb}
 use borrow.Author.Needs.{needs}
 use Rattle.host.proofs.foldharbor_run_exercise.Statement.{statement}
 use Rattle.host.proofs.foldharbor_run_exercise.Tie as tie
-use Rattle.host.proofs.foldharbor_run_exercise.Reads as reads
-use Rattle.host.proofs.foldharbor_run_exercise.Lts as lts
-use Rattle.exercise.proofs.run.Reads as run-reads
 
--- src/lib.rt:15:9
 run-requires : tie.Need-run-requires
 run-requires c κs = search needs
 
--- src/lib.rt:17:27
 cast-result : tie.Need-cast-result
 cast-result c = search needs
 
--- src/lib.rt:17:16
 add-result : tie.Need-add-result
 add-result c = search needs
 
--- src/lib.rt:17:9
 same-length : tie.Need-same-length
 same-length c = search needs
 
--- src/lib.rt:17:9
 returns : tie.Need-returns
 unfolding hostNumber
 returns c =
     let run = c .before .before .before .before .before .run .ensures in
     (simp (← run .0, ne-eqb _ _ (c .before .if1 .taken)), run .1)
 
--- src/lib.rt:19:5
 cast-result-2 : tie.Need-cast-result-2
 cast-result-2 c = search needs
 
--- src/lib.rt:10:1
 same-length-2 : tie.Need-same-length-2
 same-length-2 c = search needs
 
--- src/lib.rt:10:1
 returns-2 : tie.Need-returns-2
 unfolding hostNumber
 returns-2 c =

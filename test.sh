@@ -1,0 +1,87 @@
+#!/usr/bin/env bash
+# All tests: the proofs, the must-fail edits and the programs by `rt ci`, the files' layout, then the checks on the host.
+# The last line is 'N passed, M failed'; the status is 0 only if M is 0 and every part ran.
+set -u
+cd "$(dirname "$0")" || exit 1
+passed=0
+failed=0
+
+# check NAME COMMAND..: one check, with what it printed if it failed
+check() {
+    local name=$1
+    shift
+    if "$@" >"$log" 2>&1; then
+        passed=$((passed + 1))
+        echo "ok      $name"
+    else
+        failed=$((failed + 1))
+        echo "FAILED  $name"
+        tail -20 "$log"
+    fi
+}
+
+# same WANT COMMAND..: whether what the command prints is the file WANT
+same() {
+    local want=$1
+    shift
+    "$@" | cmp - "$want"
+}
+
+close() {
+    rm -f "$log"
+    echo "$passed passed, $failed failed"
+    [ "$failed" = 0 ]
+    exit
+}
+
+# need COMMAND PACKAGES..: what is beyond the kit is installed by its Debian package
+need() {
+    command -v "$1" >/dev/null && return
+    shift
+    { apt-get update && apt-get install -y "$@"; } >"$log" 2>&1 && return
+    tail -5 "$log"
+    failed=$((failed + 1))
+    echo "FAILED  installing $*"
+}
+
+log=$(mktemp)
+command -v rt >/dev/null || { echo "rt, the kit's command, is not on the PATH"; failed=1; close; }
+need cmp diffutils
+if [ "$(uname -m)" = x86_64 ]; then
+    need cc gcc libc6-dev
+else
+    need clang clang libc6-dev
+    need ld.lld lld
+fi
+
+# rt ci counts for itself: its last line has the numbers
+rt ci 2>&1 | tee "$log"
+status=${PIPESTATUS[0]}
+last=$(tail -1 "$log")
+if [[ $last =~ ^([0-9]+)\ passed,\ ([0-9]+)\ failed$ ]]; then
+    passed=${BASH_REMATCH[1]}
+    failed=$((failed + BASH_REMATCH[2]))
+else
+    status=1
+fi
+# a status that the numbers do not tell, such as a file that no listed crate has
+[ "$status" = 0 ] || [ "$failed" != 0 ] || failed=1
+check "rt fmt --check" rt fmt --check
+
+for exercise in tests/exercises/*.ex; do
+    check "show $exercise" same "${exercise%.ex}.txt" sh host/run.sh target/bin/show <"$exercise"
+done
+for drive in tests/drives/*.drive; do
+    check "drive $drive" same "${drive%.drive}.txt" sh host/run.sh target/bin/drive <"$drive"
+done
+
+check "rt staticlib host" rt staticlib host
+made=target/host
+check "cc vectors" sh host/build.sh $made/vectors host/vectors.c
+check "cc compare" sh host/build.sh $made/compare host/compare.c host/generate.c host/model.c
+check "cc bench" sh host/build.sh $made/bench host/bench.c host/generate.c host/model.c
+check "cc example" sh host/build.sh $made/example host/example.c
+check "the C call on the exercises" sh host/run.sh $made/vectors tests/exercises
+check "the C call against the model" sh host/run.sh $made/compare
+check "the example host" sh host/run.sh $made/example crates/show/stdin
+close
