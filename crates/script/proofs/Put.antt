@@ -1,0 +1,43 @@
+-- What is put piece by piece into a list, each piece at the place after the last, is put there as one.
+-- By `written-append`, piece after piece. Assumes nothing.
+use Prim.Native.Nat.{ℕ, _+_, _≤_, _<_}
+use mathlib.Core.Path.{_≡_, sym, ap, _∙_, refl}
+use mathlib.Core.List.{List, [], _∷_, _++_}
+use native.Mathlib.Nat.{add-zero}
+use native.Mathlib.Omega.{arith}
+use lib.ListN.{length, length-append, set}
+use lib.Seq.{sets-eq}
+use Rattle.layout.specs.Layout.{written}
+use Rattle.layout.proofs.Written.{written-nil, written-append}
+
+-- `new` was put into `before` at `at`: then the list is `after`, and `end` is the next place
+pub record Put (before : List ℕ) (at : ℕ) (new after : List ℕ) (end : ℕ) : Type 0 where
+  pub place : end ≡ at + length new
+  pub list : after ≡ written before at new
+
+pub put-none : (l : List ℕ) (at : ℕ) → Put l at [] l at
+put-none l at = record { place = sym (add-zero at); list = sym (written-nil l at) }
+
+pub put-one : (l : List ℕ) (at x : ℕ) → at < length l → Put l at (x ∷ []) (set l at x) (at + 1)
+unfolding written
+put-one l at x h = record { place = refl; list = sets-eq (x ∷ []) l at (omega arith) }
+
+pub put-then : {l m n : List ℕ} {a b c : ℕ} {x y : List ℕ} → c ≤ length l → Put l a x m b → Put m b y n c → Put l a (x ++ y) n c
+put-then {l} {m} {n} {a} {b} {c} {x} {y} fits p q =
+    record {
+      place = omega (arith, length-append x y, p .place, q .place);
+      list =
+          q .list
+          ∙ ap (λ (k : List ℕ). written k b y) (p .list)
+          ∙ ap (λ (i : ℕ). written (written l a x) i y) (p .place)
+          ∙ written-append l a x y (omega (arith, p .place, q .place));
+    }
+
+pub put-four : {k l m n o : List ℕ} {a b c d e : ℕ} {w x y z : List ℕ} → e ≤ length k
+    → Put k a w l b → Put l b x m c → Put m c y n d → Put n d z o e → Put k a (w ++ x ++ y ++ z) o e
+put-four fits p q r s =
+    put-then fits (put-then (omega (arith, s .place)) (put-then (omega (arith, r .place, s .place)) p q) r) s
+
+-- as the contracts say it
+pub put : {l m new : List ℕ} {at end most : ℕ} → ((end ≡ at + length new) × (end ≤ most)) × (m ≡ written l at new) → Put l at new m end
+put p = record { place = p .0 .0; list = p .1 }

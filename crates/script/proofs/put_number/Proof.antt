@@ -1,0 +1,71 @@
+use native.Mathlib.Omega.{arith}
+use Prim.Native.Nat.{_+_, _%_}
+use lib.ListN.{length-set}
+use Rattle.script.specs.Line.{decimal, number}
+use Rattle.script.proofs.Put.{put, put-one, put-then, put-four}
+use borrow.Author.Needs.{needs}
+use Rattle.script.proofs.put_number.Statement.{statement}
+use Rattle.script.proofs.put_number.Tie as tie
+
+put-digit-requires : tie.Need-put-digit-requires
+put-digit-requires c κs = search needs
+
+put-digit-requires-2 : tie.Need-put-digit-requires-2
+put-digit-requires-2 c κs = search needs
+
+put-digit-requires-3 : tie.Need-put-digit-requires-3
+put-digit-requires-3 c κs = search needs
+
+put-digit-requires-4 : tie.Need-put-digit-requires-4
+put-digit-requires-4 c κs = search needs
+
+cast-out : tie.Need-cast-out
+cast-out c = search needs
+
+add-out : tie.Need-add-out
+add-out c = search needs
+
+slice-write-out : tie.Need-slice-write-out
+slice-write-out c = search needs
+
+add-out-2 : tie.Need-add-out-2
+add-out-2 c = search needs
+
+slice-write-out-2 : tie.Need-slice-write-out-2
+slice-write-out-2 c = simp length-set (search needs)
+
+add-result : tie.Need-add-result
+add-result c = search needs
+
+same-length : tie.Need-same-length
+same-length c = simp length-set (search needs)
+
+returns : tie.Need-returns
+unfolding number decimal
+returns c =
+    let c4 = c .before .before in
+    let c3 = c4 .before .before .before .before in
+    let c2 = c3 .before .before .before .before in
+    let c1 = c2 .before .before .before .before in
+    let a = c1 .before .before .before .args in
+    let p4 = put-four (search needs) (put (c1 .put-digit .ensures)) (put (c2 .put-digit2 .ensures)) (put (c3 .put-digit3 .ensures)) (put (c4 .put-digit4 .ensures)) in
+    let p5 = put-then (search needs) p4 (put-one (c4 .put-digit4 .last .0) (c4 .put-digit4 .result) (48 + a .x % 10) (search needs)) in
+    let p6 = put-then (search needs) p5 (put-one _ (c4 .put-digit4 .result + 1) (a .end) (simp length-set (search needs))) in
+    ((omega (arith, p6 .place), search needs), p6 .list)
+
+pub put-number-spec : {M : Type 1} → statement M
+put-number-spec =
+    tie.close
+    (tie.spec
+    put-digit-requires
+    put-digit-requires-2
+    put-digit-requires-3
+    put-digit-requires-4
+    cast-out
+    add-out
+    slice-write-out
+    add-out-2
+    slice-write-out-2
+    add-result
+    same-length
+    returns)
