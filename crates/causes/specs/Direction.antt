@@ -7,22 +7,26 @@ use Rattle.record.specs.declared.Keys.{Keys}
 use Rattle.record.specs.Modes.{preOrVyl}
 use Rattle.causes.specs.declared.Moved.{Moved}
 
--- the wrong-way distance that triggers
+-- the wrong-way distance that triggers: a tick at v moves v/360 m, so d counts 1/360 m, and this is 10 m
 abbrev pub farthest : ℕ
 farthest = 3600
 
 -- motion agrees if cab on and lever = sense, not 0
 unfoldable pub agrees : Record → Keys → Bool
-agrees r k = k .cab && eqb (r .lever) (r .sense) && not (eqb (r .lever) 0)
+agrees r keys = keys .cab && eqb (r .lever) (r .sense) && not (eqb (r .lever) 0)
 
-module _ (mode : ℕ) (r : Record) (k : Keys) (d : ℕ) where
+module _ (mode : ℕ) (r : Record) (keys : Keys) (d : ℕ) where
+  -- the rule looks at motion, in PRE and VYL
+  abbrev pub watchesMotion : Bool
+  watchesMotion = preOrVyl mode && ltb 0 (r .v)
+
   -- with v > 0, agreeing sets d = 0, else d = min(3600, d + v); v = 0 keeps d; other modes keep it
   unfoldable pub wrongwayNow : ℕ
-  wrongwayNow = cond (preOrVyl mode && ltb 0 (r .v)) (cond (agrees r k) 0 (min farthest (d + r .v))) d
+  wrongwayNow = cond watchesMotion (cond (agrees r keys) 0 (min farthest (d + r .v))) d
 
   -- d = 3600 triggers; v = 0 never does
   unfoldable pub wrongwayTriggers : Bool
-  wrongwayTriggers = preOrVyl mode && ltb 0 (r .v) && eqb wrongwayNow farthest
+  wrongwayTriggers = watchesMotion && eqb wrongwayNow farthest
 
   abbrev pub moved : Moved
   moved = record { wrongway = wrongwayNow; triggers = wrongwayTriggers }

@@ -1,23 +1,36 @@
 -- The held causes: as a mask, NZ1 bit 0 to NZ5 bit 4, and as a list; the lowest-numbered and how many.
-use Prim.Native.Nat.{ℕ, _+_, _/_, _%_}
+use Prim.Native.Nat.{ℕ, _+_}
 use mathlib.Core.Bool.{Bool, cond}
 use mathlib.Core.List.{List, [], _∷_}
 use lib.ListN.{length}
-use lib.Dec.{eqb}
+use Rattle.numbers.specs.Bits.{bitOn}
 use Rattle.causes.specs.declared.Causes.{Causes}
+
+-- the weights of the causes in the mask, from bit 0
+abbrev pub nz1 : ℕ
+nz1 = 1
+
+abbrev pub nz2 : ℕ
+nz2 = 2
+
+abbrev pub nz3 : ℕ
+nz3 = 4
+
+abbrev pub nz4 : ℕ
+nz4 = 8
+
+abbrev pub nz5 : ℕ
+nz5 = 16
 
 -- all five
 abbrev pub allHeld : ℕ
-allHeld = 31
-
-abbrev pub bit : ℕ → ℕ → Bool
-bit mask weight = eqb (mask / weight % 2) 1
+allHeld = nz1 + nz2 + nz3 + nz4 + nz5
 
 unfoldable pub heldIn : ℕ → Causes
-heldIn mask = record { nz1 = bit mask 1; nz2 = bit mask 2; nz3 = bit mask 4; nz4 = bit mask 8; nz5 = bit mask 16 }
+heldIn mask = record { nz1 = bitOn mask nz1; nz2 = bitOn mask nz2; nz3 = bitOn mask nz3; nz4 = bitOn mask nz4; nz5 = bitOn mask nz5 }
 
 unfoldable pub maskOf : Causes → ℕ
-maskOf c = cond (c .nz1) 1 0 + cond (c .nz2) 2 0 + cond (c .nz3) 4 0 + cond (c .nz4) 8 0 + cond (c .nz5) 16 0
+maskOf c = cond (c .nz1) nz1 0 + cond (c .nz2) nz2 0 + cond (c .nz3) nz3 0 + cond (c .nz4) nz4 0 + cond (c .nz5) nz5 0
 
 abbrev pub also : Bool → ℕ → List ℕ → List ℕ
 also held number rest = cond held (number ∷ rest) rest

@@ -7,21 +7,24 @@ use Rattle.record.specs.declared.Record.{Record}
 use Rattle.record.specs.declared.Keys.{Keys}
 use Rattle.record.specs.Modes.{preOrVyl}
 use Rattle.causes.specs.declared.Causes.{Causes}
-use Rattle.causes.specs.Held.{heldIn, maskOf}
 
--- step 9: NZ2 in all modes, v > P + tolerance; NZ4 in PRE and VYL, remote stop on
+-- step 9, NZ2, in all modes: v > P + tolerance
 abbrev pub overspeeds : Card → ℕ → ℕ → Bool
 overspeeds card p v = ltb (p + card .tolerance) v
 
+-- step 9, NZ4, in PRE and VYL: remote stop on
+abbrev pub remoteStops : ℕ → Keys → Bool
+remoteStops mode keys = preOrVyl mode && keys .remote
+
 -- step 10: a vigilance press lets go NZ1, NZ3 if v = 0; NZ2 if v ≤ P; NZ4 if v = 0 and remote stop off; NZ5 always
 unfoldable pub released : ℕ → Record → Keys → Causes
-released p r k =
+released p r keys =
     record {
-      nz1 = k .vigilance && eqb (r .v) 0;
-      nz2 = k .vigilance && leb (r .v) p;
-      nz3 = k .vigilance && eqb (r .v) 0;
-      nz4 = k .vigilance && eqb (r .v) 0 && not (k .remote);
-      nz5 = k .vigilance;
+      nz1 = keys .vigilance && eqb (r .v) 0;
+      nz2 = keys .vigilance && leb (r .v) p;
+      nz3 = keys .vigilance && eqb (r .v) 0;
+      nz4 = keys .vigilance && eqb (r .v) 0 && not (keys .remote);
+      nz5 = keys .vigilance;
     }
 
 -- a triggered cause is held; one not triggered is let go where it may be

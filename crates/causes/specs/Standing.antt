@@ -10,14 +10,17 @@ use Rattle.causes.specs.declared.Stood.{Stood}
 
 -- v = 0, direct brake off and band 2
 abbrev pub unbraked : Record → Keys → Bool
-unbraked r k = eqb (r .v) 0 && not (k .brake) && eqb (r .band) 2
+unbraked r keys = eqb (r .v) 0 && not (keys .brake) && eqb (r .band) 2
 
 -- held: NZ5 was held before this tick
-module _ (card : Card) (mode : ℕ) (r : Record) (k : Keys) (held : Bool) (h : ℕ) where
-  -- h = min(wait, h + 1), else h = 0; a vigilance press while NZ5 is held sets h = 0; other modes keep h
+module _ (card : Card) (mode : ℕ) (r : Record) (keys : Keys) (held : Bool) (h : ℕ) where
+  -- with v = 0, direct brake off and band 2, h = min(wait, h + 1), else h = 0
+  abbrev pub counted : ℕ
+  counted = cond (unbraked r keys) (min (card .wait) (h + 1)) 0
+
+  -- a vigilance press while NZ5 is held sets h = 0; other modes keep h
   unfoldable pub standingNow : ℕ
-  standingNow =
-      cond (preOrVyl mode) (cond (k .vigilance && held) 0 (cond (unbraked r k) (min (card .wait) (h + 1)) 0)) h
+  standingNow = cond (preOrVyl mode) (cond (keys .vigilance && held) 0 counted) h
 
   -- h = wait triggers
   unfoldable pub standingTriggers : Bool

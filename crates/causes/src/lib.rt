@@ -5,7 +5,7 @@ ghost use Rattle.card.specs.Card.{longWait, CardRanges};
 ghost use Rattle.record.specs.Record.{RecordRanges};
 ghost use Rattle.causes.specs.Held.{allHeld, heldIn, maskOf, lowest, howMany};
 ghost use Rattle.causes.specs.Direction.{farthest, agrees, moved};
-ghost use Rattle.causes.specs.Standing.{unbraked, stood};
+ghost use Rattle.causes.specs.Standing.{stood};
 ghost use Rattle.causes.specs.Keeping.{released, kept, wrongwayLeft};
 use card::Card;
 use record::Keys;

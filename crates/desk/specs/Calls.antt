@@ -1,12 +1,11 @@
 -- What each call on a desk returns, and what a tick leaves in the journal. A refusal number of 0 is none; the numbers stand in the paper's order.
 use Prim.Native.Nat.{ℕ, _+_, _-_, _*_}
 use mathlib.Core.List.{List}
-use mathlib.Core.Bool.{Bool, not, cond}
+use mathlib.Core.Bool.{not, cond}
 use lib.Dec.{leb, ltb, eqb}
 use lib.ListN.{length}
 use Rattle.card.specs.declared.Card.{Card}
 use Rattle.card.specs.Card.{cardInRange}
-use Rattle.record.specs.declared.Record.{Record}
 use Rattle.record.specs.declared.Sample.{Sample}
 use Rattle.record.specs.Record.{recordWidth, putRecord}
 use Rattle.record.specs.Sample.{sampleRefusal, sampleRecord}
@@ -22,20 +21,24 @@ use Rattle.desk.specs.Desk.{deskInRange, freshDesk, noDesk}
 abbrev pub refused : Desk → ℕ → Outcome
 refused desk number = record { desk = desk; answer = noAnswer; refusal = number }
 
+-- opening and restart: a fresh desk, and an answer of zeros
+abbrev pub begun : Card → Outcome
+begun card = record { desk = freshDesk card; answer = noAnswer; refusal = 0 }
+
 -- a desk of n ticks, in the state and with the answer that a tick gave
 abbrev pub accepted : Card → ℕ → Advanced → Outcome
 accepted card n a = record { desk = record { card = card; n = n; state = a .state }; answer = a .answer; refusal = 0 }
 
 -- opening: 4
 unfoldable pub openOutcome : Card → Outcome
-openOutcome card = cond (not (cardInRange card)) (refused noDesk 4) (refused (freshDesk card) 0)
+openOutcome card = cond (not (cardInRange card)) (refused noDesk 4) (begun card)
 
--- tick: 5, 6, 7, then 1, 2, 3 of the sample
+-- tick: 5, 6, 7, then 1, 2, 3 of the sample; `bytes` is the journal's length
 unfoldable pub tickRefusal : Desk → ℕ → ℕ → ℕ
-tickRefusal d sample length =
+tickRefusal d ofSample bytes =
     cond (not (deskInRange d)) 5
-    (cond (ltb length (recordWidth * d .n)) 6
-    (cond (leb (capacity length) (d .n)) 7 sample))
+    (cond (ltb bytes (recordWidth * d .n)) 6
+    (cond (leb (capacity bytes) (d .n)) 7 ofSample))
 
 module _ (d : Desk) (x : Sample) (journal : List ℕ) where
   abbrev pub tickNumber : ℕ
@@ -67,4 +70,4 @@ module _ (d : Desk) (k : ℕ) (journal : List ℕ) where
 
 -- restart: 5
 unfoldable pub restartOutcome : Desk → Outcome
-restartOutcome d = cond (not (deskInRange d)) (refused d 5) (refused (freshDesk (d .card)) 0)
+restartOutcome d = cond (not (deskInRange d)) (refused d 5) (begun (d .card))

@@ -1,11 +1,10 @@
 -- The desk: its ranges, as facts and as the test that the code makes; a fresh desk, and one of zeros.
-use Prim.Native.Nat.{ℕ, _≤_}
+use Prim.Native.Nat.{_≤_}
 use mathlib.Core.Bool.{Bool, _&&_}
 use lib.Dec.{leb}
 use Rattle.card.specs.declared.Card.{Card}
 use Rattle.card.specs.Card.{CardRanges, cardInRange}
-use Rattle.rules.specs.declared.State.{State}
-use Rattle.rules.specs.State.{fresh, noSignal, noOnce, noWatch, StateRanges, stateInRange}
+use Rattle.rules.specs.State.{only, fresh, StateRanges, stateInRange}
 use Rattle.desk.specs.declared.Desk.{Desk}
 use Rattle.desk.specs.Journal.{mostTicks}
 
@@ -35,17 +34,5 @@ noCard = record {
   wait = 0;
 }
 
-abbrev pub noState : State
-noState = record {
-  mode = 0;
-  buttons = 0;
-  signal = noSignal;
-  once = noOnce;
-  watch = noWatch;
-  wrongway = 0;
-  standing = 0;
-  causes = 0;
-}
-
 abbrev pub noDesk : Desk
-noDesk = record { card = noCard; n = 0; state = noState }
+noDesk = record { card = noCard; n = 0; state = only 0 }

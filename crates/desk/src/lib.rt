@@ -6,9 +6,9 @@ ghost use lib.ListN.{length};
 ghost use Rattle.card.specs.Card.{CardRanges};
 ghost use Rattle.record.specs.Record.{recordWidth};
 ghost use Rattle.rules.specs.After.{noAnswer, after};
-ghost use Rattle.desk.specs.Journal.{capacity, records, allInRange, mostTicks};
+ghost use Rattle.desk.specs.Journal.{capacity, records, allInRange};
 ghost use Rattle.desk.specs.Desk.{deskInRange, freshDesk, noDesk};
-ghost use Rattle.desk.specs.Calls.{refused, accepted, openOutcome, tickRefusal, tickOutcome, tickJournal, backRefusal, backOutcome, restartOutcome};
+ghost use Rattle.desk.specs.Calls.{refused, begun, accepted, openOutcome, tickRefusal, tickOutcome, tickJournal, backRefusal, backOutcome, restartOutcome};
 use card::Card;
 use record::RECORD_WIDTH;
 use record::Sample;
@@ -94,6 +94,19 @@ fn refused(desk: Desk, number: u8) -> Outcome
         desk: desk,
         answer: answer,
         refusal: number,
+    }
+}
+
+// A fresh desk of the card, accepted.
+fn begun(card: Card) -> Outcome
+    ensures { λ x. ⌜ x ≡ begun card ⌝ }
+{
+    let desk = fresh_desk(card);
+    let answer = no_answer();
+    Outcome {
+        desk: desk,
+        answer: answer,
+        refusal: 0,
     }
 }
 
@@ -204,7 +217,7 @@ impl Desk {
         if !card::card_in_range(card) {
             return refused(no_desk(), 4);
         }
-        refused(fresh_desk(card), 0)
+        begun(card)
     }
 
     pub fn tick(self, sample: Sample, journal: &mut [u8]) -> Outcome
@@ -243,6 +256,6 @@ impl Desk {
             return refused(self, 5);
         }
         let card = self.card;
-        refused(fresh_desk(card), 0)
+        begun(card)
     }
 }

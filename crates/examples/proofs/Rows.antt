@@ -7,7 +7,7 @@ use Rattle.reading.specs.Number.{quantity}
 use Rattle.reading.specs.Speed.{speedAt, speedOf, speedValue}
 use Rattle.card.specs.Card.{cardInRange}
 use Rattle.record.specs.Record.{recordInRange}
-use Rattle.record.specs.Flags.{flagOn, pressed, keysOf}
+use Rattle.record.specs.Flags.{pressed, keysOf}
 use Rattle.signal.specs.Target.{target}
 use Rattle.signal.specs.Speed.{curveValue, signalSpeed}
 use Rattle.signal.specs.NewCode.{gapMan, manByCode, curveBegins, curveByCode, beforeNext, gapNext}
@@ -30,5 +30,5 @@ use Rattle.examples.specs.Rows.{rows}
 
 -- with `[]` and `_∷_` in scope, a refusal of a short table shows the numbers that differ
 pub rows-hold : map (λ row. row .what) rows ≡ map (λ row. row .is) rows
-unfolding rows ticks drive taken atEnd ofBits quantity speedAt speedOf speedValue cardInRange recordInRange flagOn pressed keysOf target curveValue signalSpeed gapMan manByCode curveBegins curveByCode beforeNext gapNext raiseNext manLowered curveHolds manStarts curveAged aspectNow asksIncreased asksOrdinary watchKind cycleLength watchLapses watchTicks watchPrompts lead exceeds onceLapses onceStays asksAhead asksAtStart onceTicks onceKind givenNext heldIn maskOf listed lowest howMany agrees wrongwayNow wrongwayTriggers standingNow standingTriggers standingSounds released kept wrongwayLeft modeNow entered ceiling permitted aspectIn permittedIn kindIn cyclicIn oneTimeIn movedIn stoodIn found triggered heldNext wrongwayNext stateNext marks answer ticked advance after
+unfolding rows ticks drive taken atEnd ofBits quantity speedAt speedOf speedValue cardInRange recordInRange pressed keysOf target curveValue signalSpeed gapMan manByCode curveBegins curveByCode beforeNext gapNext raiseNext manLowered curveHolds manStarts curveAged aspectNow asksIncreased asksOrdinary watchKind cycleLength watchLapses watchTicks watchPrompts lead exceeds onceLapses onceStays asksAhead asksAtStart onceTicks onceKind givenNext heldIn maskOf listed lowest howMany agrees wrongwayNow wrongwayTriggers standingNow standingTriggers standingSounds released kept wrongwayLeft modeNow entered ceiling permitted aspectIn permittedIn kindIn cyclicIn oneTimeIn movedIn stoodIn found triggered heldNext wrongwayNext stateNext marks answer ticked advance after
 rows-hold = refl

@@ -1,7 +1,7 @@
 -- The flags: the weight of each bit, from bit 0; what is on, and what is pressed.
-use Prim.Native.Nat.{ℕ, _+_, _/_, _%_}
+use Prim.Native.Nat.{ℕ, _+_, _%_}
 use mathlib.Core.Bool.{Bool, not, _&&_}
-use lib.Dec.{eqb}
+use Rattle.numbers.specs.Bits.{bitOn}
 use Rattle.record.specs.declared.Keys.{Keys}
 
 abbrev pub vigilance : ℕ
@@ -33,12 +33,17 @@ cab = 64
 abbrev pub allFlags : ℕ
 allFlags = vigilance + plus + man + brake + remote + loss + cab
 
-unfoldable pub flagOn : ℕ → ℕ → Bool
-flagOn flags weight = eqb (flags / weight % 2) 1
+-- the three buttons
+abbrev pub allButtons : ℕ
+allButtons = vigilance + plus + man
 
--- "A press is a button on now and off the tick before"
+-- those of the flags that are buttons, which the desk holds until the next tick
+abbrev pub buttonsOf : ℕ → ℕ
+buttonsOf flags = flags % (allButtons + 1)
+
+-- "A press is a button on now and off the tick before (off before the first)": a fresh desk holds no button
 unfoldable pub pressed : ℕ → ℕ → ℕ → Bool
-pressed flags before weight = flagOn flags weight && not (flagOn before weight)
+pressed flags before weight = bitOn flags weight && not (bitOn before weight)
 
 -- the three buttons as presses, then the switches; `buttons` are those of the tick before
 unfoldable pub keysOf : ℕ → ℕ → Keys
@@ -47,8 +52,8 @@ keysOf flags buttons =
       vigilance = pressed flags buttons vigilance;
       plus = pressed flags buttons plus;
       man = pressed flags buttons man;
-      brake = flagOn flags brake;
-      remote = flagOn flags remote;
-      loss = flagOn flags loss;
-      cab = flagOn flags cab;
+      brake = bitOn flags brake;
+      remote = bitOn flags remote;
+      loss = bitOn flags loss;
+      cab = bitOn flags cab;
     }

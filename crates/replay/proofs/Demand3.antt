@@ -33,7 +33,7 @@ use Rattle.desk.specs.Calls.{refused, accepted, openOutcome, tickNumber, tickOu
 use Rattle.numbers.proofs.All.{each-all}
 use Rattle.desk.proofs.Journal.{room}
 use Rattle.desk.proofs.Calls as Calls
-use Rattle.replay.specs.Demand3.{Call, Tick, Back, Restart, Drive, outcome, journalAfter, survivors, call, calls, outcomes, opened, Same, Demand3}
+use Rattle.replay.specs.Demand3.{Call, Tick, Back, Restart, Drive, outcome, journalAfter, survivors, call, calls, outcomes, opened, Same, Demand3, LastAnswer}
 
 -- ---- the survivors and their records
 abbrev noRecord : Record
@@ -315,23 +315,89 @@ from-here card L ok s t v w e (c ∷ cs) =
     ap₂ (λ (x : Outcome) (xs : List Outcome). x ∷ xs) (outcomes-same card L ok s t v w e c)
     (from-here card L ok (call s c) (call t c) (called card L ok s v c) (called card L ok t w c) (kept-same card L ok s t v w e c) cs)
 
+refused-is : (card : Card) (L : ℕ) (ok : cardInRange card ≡ true) (s : Drive) (v : Kept card L s) (c : Call) → (outcome s c .refusal ≡ 0 → ⊥) → call s c ≡ s
+unfolding outcome
+refused-is card L ok s v (Tick x) f = tick-refused card L ok s v x (λ e. f (ap (λ (o : Outcome). o .refusal) (Calls.tick-yes _ _ _ e .0)))
+refused-is card L ok s v (Back k) f = back-refused card L ok s v k (λ e. f (ap (λ (o : Outcome). o .refusal) (Calls.back-yes _ _ _ e)))
+refused-is card L ok s v Restart f = absurd (f (ap (λ (o : Outcome). o .refusal) (restart-is card L ok s v)))
+
+opens : (card : Card) → cardInRange card ≡ true → openOutcome card .refusal ≡ 0
+unfolding openOutcome
+opens card ok = rw ok
+
 pub demand3 : Demand3
 unfolding outcome
-demand3 card J K cs ok e =
+demand3 card ok = (
+  opens card ok,
+  λ J K cs e.
+      let L = length J in
+      let s = calls (opened card J) cs in
+      let t = calls (opened card K) (map Tick (s .kept)) in
+      let v : Kept card L s = all-called card L ok (opened card J) (begun card J ok) cs in
+      let b : Kept card L (opened card K) = rw e at (begun card K ok) in
+      let w : Kept card L t = all-called card L ok (opened card K) b (map Tick (s .kept)) in
+      let same : t .kept ≡ s .kept = fed card L ok (opened card K) b (s .kept) (v .fine) (let h = v .fits in omega arith) in
+      record {
+        all-fed = same;
+        same-desk = desks-same card L ok s t v w same;
+        counted = n-is card L ok s v;
+        next-tick = λ x. outcomes-same card L ok s t v w same (Tick x);
+        from-here = from-here card L ok s t v w same;
+        ticks = λ x f h. ap (λ (o : Outcome). o .refusal) (Calls.tick-yes _ _ _ (tick-open card L ok s v x f h) .0);
+        steps-back = λ k h. ap (λ (o : Outcome). o .refusal) (Calls.back-yes _ _ _ (back-open card L ok s v k h));
+        restarts = ap (λ (o : Outcome). o .refusal) (restart-is card L ok s v);
+        refused-nothing = refused-is card L ok s v;
+      },
+)
+
+-- ---- the answer of a step back
+fine-front : (xs : List Sample) (x : Sample) → Fine (xs ++ (x ∷ [])) → Fine xs × (sampleRefusal x ≡ 0)
+fine-front [] x f = (tt, f .0)
+fine-front (y ∷ xs) x f = let r = fine-front xs x (f .1) in ((f .0, r .0), r .1)
+
+module _ (card : Card) (L : ℕ) (ok : cardInRange card ≡ true) (s t : Drive) (v : Kept card L s) (w : Kept card L t) (k : ℕ) (xs : List Sample) (x : Sample)
+    (few : k ≤ length (s .kept)) (is : take (length (s .kept) - k) (s .kept) ≡ xs ++ (x ∷ [])) (e : t .kept ≡ xs) where
+  count : length (s .kept) - k ≡ length xs + 1
+  count = sym (length-take-le (length (s .kept) - k) (s .kept) (omega arith)) ∙ ap length is ∙ length-snoc xs x
+
+  there : (i : ℕ) → i < length xs + 1 → records (s .journal) i ≡ survivor (xs ++ (x ∷ [])) i
+  there i h =
+      let c = count in
+      v .held i (omega arith) ∙ sym (survivor-take (length (s .kept) - k) (s .kept) i (omega arith)) ∙ ap (λ (l : List Sample). survivor l i) is
+
+  front : (i : ℕ) → i < length xs → records (s .journal) i ≡ records (t .journal) i
+  front i h =
+      there i (omega arith) ∙ survivor-old xs (x ∷ []) i h ∙ ap (λ (l : List Sample). survivor l i) (sym e) ∙ sym (w .held i (rw e h))
+
+  fine-both : Fine xs × (sampleRefusal x ≡ 0)
+  fine-both = fine-front xs x (rw is at (fine-take (length (s .kept) - k) (s .kept) (v .fine)))
+
+  room-left : length (t .kept) < capacity L
+  room-left = let c = count in let f = v .fits in rw e (omega arith)
+
+  answers-same : outcome s (Back k) .answer ≡ outcome t (Tick x) .answer
+  unfolding outcome
+  answers-same =
+      let n = n-is card L ok s v in
+      let m = length xs in
+      let d : t .desk ≡ desk-at card (records (t .journal)) m = w .is ∙ ap (λ (l : List Sample). desk-at card (records (t .journal)) (length l)) e in
+      ap (λ (o : Outcome). o .answer) (Calls.back-yes _ _ _ (back-open card L ok s v k few))
+      ∙ ap (λ (q : Desk). after (q .card) (records (s .journal)) (q .n - k) .answer) (v .is)
+      ∙ ap (λ (i : ℕ). after card (records (s .journal)) i .answer) count
+      ∙ ap (λ (a : Advanced). a .answer) (after-next card (records (s .journal)) m)
+      ∙ ap₂ (λ (a : Advanced) (q : Record). advance card (a .state) q .answer) (after-same card (records (s .journal)) (records (t .journal)) m front) (there m (omega arith) ∙ survivor-new xs x)
+      ∙ sym (ap (λ (q : Desk). advance (q .card) (q .state) (sampleRecord x) .answer) d)
+      ∙ sym (ap (λ (o : Outcome). o .answer) (Calls.tick-yes _ _ _ (tick-open card L ok t w x (fine-both .1) room-left) .0))
+
+pub last-answer : LastAnswer
+unfolding survivors
+last-answer card J K cs k xs x ok e few is =
     let L = length J in
     let s = calls (opened card J) cs in
-    let t = calls (opened card K) (map Tick (s .kept)) in
+    let t = calls (opened card K) (map Tick xs) in
     let v : Kept card L s = all-called card L ok (opened card J) (begun card J ok) cs in
     let b : Kept card L (opened card K) = rw e at (begun card K ok) in
-    let w : Kept card L t = all-called card L ok (opened card K) b (map Tick (s .kept)) in
-    let same : t .kept ≡ s .kept = fed card L ok (opened card K) b (s .kept) (v .fine) (let h = v .fits in omega arith) in
-    record {
-      all-fed = same;
-      same-desk = desks-same card L ok s t v w same;
-      counted = n-is card L ok s v;
-      next-tick = λ x. outcomes-same card L ok s t v w same (Tick x);
-      from-here = from-here card L ok s t v w same;
-      ticks = λ x f h. ap (λ (o : Outcome). o .refusal) (Calls.tick-yes _ _ _ (tick-open card L ok s v x f (rw (v .long) at h)) .0);
-      steps-back = λ k h. ap (λ (o : Outcome). o .refusal) (Calls.back-yes _ _ _ (back-open card L ok s v k h));
-      restarts = ap (λ (o : Outcome). o .refusal) (restart-is card L ok s v);
-    }
+    let w : Kept card L t = all-called card L ok (opened card K) b (map Tick xs) in
+    let f : Fine xs = fine-front xs x (rw is at (fine-take (length (s .kept) - k) (s .kept) (v .fine))) .0 in
+    let long : length xs + 1 ≡ length (s .kept) - k = sym (sym (length-take-le (length (s .kept) - k) (s .kept) (omega arith)) ∙ ap length is ∙ length-snoc xs x) in
+    answers-same card L ok s t v w k xs x few is (fed card L ok (opened card K) b xs f (let h = v .fits in omega arith))

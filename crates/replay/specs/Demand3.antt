@@ -61,19 +61,30 @@ outcomes s (c ∷ cs) = outcome s c ∷ outcomes (call s c) cs
 abbrev pub opened : Card → List ℕ → Drive
 opened card journal = record { desk = openOutcome card .desk; journal = journal; kept = [] }
 
--- s, after any calls, and t, a fresh desk fed the survivors of s
-pub record Same (s t : Drive) : Type 0 where
+-- s, after any calls, and t, a fresh desk fed the survivors of s; L is the journal's length
+pub record Same (L : ℕ) (s t : Drive) : Type 0 where
   pub all-fed : t .kept ≡ s .kept
   pub same-desk : s .desk ≡ t .desk
   pub counted : s .desk .n ≡ length (s .kept)
   pub next-tick : (x : Sample) → outcome s (Tick x) ≡ outcome t (Tick x)
   pub from-here : (cs : List Call) → outcomes s cs ≡ outcomes t cs
-  pub ticks : (x : Sample) → sampleRefusal x ≡ 0 → length (s .kept) < capacity (length (s .journal)) → outcome s (Tick x) .refusal ≡ 0
+  pub ticks : (x : Sample) → sampleRefusal x ≡ 0 → length (s .kept) < capacity L → outcome s (Tick x) .refusal ≡ 0
   pub steps-back : (k : ℕ) → k ≤ length (s .kept) → outcome s (Back k) .refusal ≡ 0
   pub restarts : outcome s Restart .refusal ≡ 0
+  -- a refused call never happened
+  pub refused-nothing : (c : Call) → (outcome s c .refusal ≡ 0 → ⊥) → call s c ≡ s
 
--- for every good card, all calls, and any two journals of one length, whatever they hold
+-- for every good card, which no opening refuses, all calls, and any two journals of one length, whatever they hold
 abbrev pub Demand3 : Type 0
 Demand3 =
-    (card : Card) (J K : List ℕ) (cs : List Call) → cardInRange card ≡ true → length K ≡ length J →
-    Same (calls (opened card J) cs) (calls (opened card K) (map Tick (calls (opened card J) cs .kept)))
+    (card : Card) → cardInRange card ≡ true →
+    (openOutcome card .refusal ≡ 0)
+    × ((J K : List ℕ) (cs : List Call) → length K ≡ length J →
+    Same (length J) (calls (opened card J) cs) (calls (opened card K) (map Tick (calls (opened card J) cs .kept))))
+
+-- a step back returns the last survivor's answer: the one that the tick gave which took it
+abbrev pub LastAnswer : Type 0
+LastAnswer =
+    (card : Card) (J K : List ℕ) (cs : List Call) (k : ℕ) (xs : List Sample) (x : Sample) → cardInRange card ≡ true → length K ≡ length J →
+    k ≤ length (calls (opened card J) cs .kept) → survivors (calls (opened card J) cs .kept) (Back k) ≡ xs ++ (x ∷ []) →
+    outcome (calls (opened card J) cs) (Back k) .answer ≡ outcome (calls (opened card K) (map Tick xs)) (Tick x) .answer

@@ -4,6 +4,7 @@ use mathlib.Core.Bool.{Bool, _&&_}
 use lib.Dec.{leb}
 use Rattle.card.specs.Card.{longWait}
 use Rattle.record.specs.Modes.{pos, zav}
+use Rattle.record.specs.Flags.{allButtons}
 use Rattle.signal.specs.declared.Signal.{Signal}
 use Rattle.signal.specs.NewCode.{noCurve}
 use Rattle.signal.specs.Ranges.{SignalRanges, signalInRange}
@@ -14,10 +15,6 @@ use Rattle.causes.specs.Held.{allHeld}
 use Rattle.causes.specs.Direction.{farthest}
 use Rattle.rules.specs.declared.State.{State}
 
--- all three buttons
-abbrev pub allButtons : ℕ
-allButtons = 7
-
 abbrev pub noSignal : Signal
 noSignal = record { codes = record { last = 0; before = 0; gap = 0; raise = 0 }; curve = noCurve; man = 0 }
 
@@ -27,10 +24,10 @@ noOnce = record { ticks = 0; kind = 0 }
 abbrev pub noWatch : Watch
 noWatch = record { kind = 0; ticks = 0 }
 
--- mode 1, all else 0
-abbrev pub fresh : State
-fresh = record {
-  mode = pos;
+-- a mode, all else 0
+abbrev pub only : ℕ → State
+only mode = record {
+  mode = mode;
   buttons = 0;
   signal = noSignal;
   once = noOnce;
@@ -39,6 +36,10 @@ fresh = record {
   standing = 0;
   causes = 0;
 }
+
+-- mode 1, all else 0
+abbrev pub fresh : State
+fresh = only pos
 
 pub record StateRanges (s : State) : Type 0 where
   pub mode-least : pos ≤ s .mode

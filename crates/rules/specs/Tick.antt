@@ -1,15 +1,14 @@
 -- One tick: what it finds, step by step, and what it makes of it.
-use Prim.Native.Nat.{ℕ, _+_, _%_, _≤_}
-use mathlib.Core.Bool.{Bool, false, _&&_, _||_, cond}
+use Prim.Native.Nat.{ℕ, _+_, _≤_}
+use mathlib.Core.Bool.{false, _||_, cond}
 use lib.Dec.{ltb, eqb}
 use Rattle.reading.specs.Speed.{topSpeed}
 use Rattle.card.specs.declared.Card.{Card}
 use Rattle.card.specs.Card.{longWait}
 use Rattle.record.specs.declared.Record.{Record}
 use Rattle.record.specs.declared.Keys.{Keys}
-use Rattle.record.specs.Modes.{pre, preOrVyl}
-use Rattle.record.specs.Flags.{keysOf}
-use Rattle.signal.specs.declared.Signal.{Signal}
+use Rattle.record.specs.Modes.{pre}
+use Rattle.record.specs.Flags.{keysOf, buttonsOf}
 use Rattle.signal.specs.declared.Aspect.{Aspect}
 use Rattle.signal.specs.Ranges.{AspectRanges}
 use Rattle.signal.specs.Speed.{on, runs}
@@ -25,7 +24,7 @@ use Rattle.causes.specs.declared.Stood.{Stood}
 use Rattle.causes.specs.Held.{heldIn, maskOf, lowest, howMany}
 use Rattle.causes.specs.Direction.{farthest, moved}
 use Rattle.causes.specs.Standing.{stood}
-use Rattle.causes.specs.Keeping.{overspeeds, released, kept, wrongwayLeft}
+use Rattle.causes.specs.Keeping.{overspeeds, remoteStops, released, kept, wrongwayLeft}
 use Rattle.rules.specs.declared.State.{State}
 use Rattle.rules.specs.declared.Findings.{Findings}
 use Rattle.rules.specs.declared.Answer.{Answer}
@@ -35,10 +34,11 @@ use Rattle.rules.specs.Permitted.{permitted}
 
 -- s: the state as step 1 leaves it
 module _ (card : Card) (s : State) (r : Record) where
+  -- one press serves every rule
   abbrev pub keysIn : Keys
   keysIn = keysOf (r .flags) (s .buttons)
 
-  -- steps 2 to 6; outside PRE steps 2 to 5 are skipped, and T is 0
+  -- steps 2 to 6; outside PRE steps 2 to 5 are skipped, T is 0, and no rule looks at the signal speed
   unfoldable pub aspectIn : Aspect
   aspectIn =
       cond (eqb (s .mode) pre) (aspectNow card (s .signal) r keysIn)
@@ -84,7 +84,7 @@ module _ (card : Card) (s : State) (r : Record) (f : Findings) where
     nz1 = f .cyclic .lapses || f .once .lapses;
     nz2 = overspeeds card (f .permitted) (r .v);
     nz3 = f .moved .triggers;
-    nz4 = preOrVyl (s .mode) && f .keys .remote;
+    nz4 = remoteStops (s .mode) (f .keys);
     nz5 = f .stood .triggers;
   }
 
@@ -99,7 +99,7 @@ module _ (card : Card) (s : State) (r : Record) (f : Findings) where
   unfoldable pub stateNext : State
   stateNext = record {
     mode = s .mode;
-    buttons = r .flags % 8;
+    buttons = buttonsOf (r .flags);
     signal = record {
       codes = f .aspect .signal .codes;
       curve = record {

@@ -10,7 +10,7 @@ ghost use Rattle.causes.specs.Held.{allHeld};
 ghost use Rattle.rules.specs.State.{fresh, noSignal, StateRanges, stateInRange};
 ghost use Rattle.rules.specs.Mode.{modeNow, entered};
 ghost use Rattle.rules.specs.Permitted.{ceiling, permitted};
-ghost use Rattle.rules.specs.Tick.{keysIn, aspectIn, found, FindingsRanges, triggered, heldNext, wrongwayNext, stateNext, marks, answer, ticked, advance};
+ghost use Rattle.rules.specs.Tick.{keysIn, aspectIn, found, FindingsRanges, triggered, stateNext, marks, answer, advance};
 use card::Card;
 use causes::Causes;
 use causes::Moved;

@@ -54,7 +54,7 @@ module _ (s : Signal) (r : Record) (good : SignalRanges s) where
 
 module _ (card : Card) (curve : Curve) (begins : Bool) (t : ℕ) (k : Keys) (card-good : CardRanges card) (good : CurveRanges curve) where
   -- a curve that goes on is not spent
-  young : curveHolds card curve begins t k ≡ true → ageNow curve begins ≤ oldestAge
+  young : curveHolds card curve begins t ≡ true → ageNow curve begins ≤ oldestAge
   unfolding curveHolds
   young h =
       let f = simp (and-iff, not-iff) at h in
@@ -69,7 +69,7 @@ module _ (card : Card) (s : Signal) (r : Record) (card-good : CardRanges card) (
   unfolding manByCode
   man-by-code-most = simp most-iff (omega arith)
 
-  old-speed-most : oldSpeed card s r ≤ topSpeed
+  old-speed-most : oldSpeed card s ≤ topSpeed
   old-speed-most = signal-speed-most _ _ _ _ (good .curve) (good .man-most) (target-most _ _ _ card-good (good .codes .raise-most))
 
   pub curve-by-code-ranges : CurveRanges (curveByCode card s r)

@@ -1,5 +1,5 @@
 -- Steps 2 to 6 in PRE, put together.
-use Prim.Native.Nat.{ℕ, _≤_}
+use Prim.Native.Nat.{ℕ}
 use Rattle.card.specs.declared.Card.{Card}
 use Rattle.record.specs.declared.Record.{Record}
 use Rattle.record.specs.declared.Keys.{Keys}
@@ -13,21 +13,21 @@ use Rattle.signal.specs.Plus.{raiseNext, codesNext}
 use Rattle.signal.specs.Man.{manLowered}
 use Rattle.signal.specs.Curve.{manStarts, curveAged, manStarted}
 
-module _ (card : Card) (s : Signal) (r : Record) (k : Keys) where
+module _ (card : Card) (s : Signal) (r : Record) (keys : Keys) where
   -- T, with the new raise
   abbrev pub targetNow : ℕ
-  targetNow = target card (r .code) (raiseNext s r k)
+  targetNow = target card (r .code) (raiseNext s r keys)
 
   abbrev pub curveNext : Curve
-  curveNext = curveAged card (curveByCode card s r) (curveBegins card s r) targetNow k
+  curveNext = curveAged card (curveByCode card s r) (curveBegins card s r) targetNow keys
 
   abbrev pub manNext : ℕ
   manNext =
-      manStarted (manStarts card (curveByCode card s r) (curveBegins card s r) targetNow k)
+      manStarted (manStarts card (curveByCode card s r) (curveBegins card s r) targetNow keys)
       (manLowered (s .man) (manByCode card s r) (unchanged s r) targetNow (r .v)) (r .v)
 
   abbrev pub signalNext : Signal
-  signalNext = record { codes = codesNext s r k; curve = curveNext; man = manNext }
+  signalNext = record { codes = codesNext s r keys; curve = curveNext; man = manNext }
 
   unfoldable pub aspectNow : Aspect
   aspectNow = record {

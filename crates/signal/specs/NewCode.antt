@@ -18,9 +18,13 @@ noCurve = record { start = 0; age = 0; given = 0 }
 abbrev pub curveFrom : ℕ → Curve
 curveFrom speed = record { start = speed; age = 0; given = 0 }
 
--- M where MAN begins at v
-abbrev pub manFrom : ℕ → ℕ
-manFrom v = max 1200 v
+-- M is never below this speed
+abbrev pub leastMan : ℕ
+leastMan = 1200
+
+-- M for a speed: that speed, or the least
+abbrev pub manAt : ℕ → ℕ
+manAt speed = max leastMan speed
 
 abbrev pub unchanged : Signal → Record → Bool
 unchanged s r = eqb (r .code) (s .codes .last)
@@ -28,35 +32,36 @@ unchanged s r = eqb (r .code) (s .codes .last)
 abbrev pub newCode : Signal → Record → Bool
 newCode s r = not (unchanged s r)
 
+-- S0, the old signal speed
+abbrev pub oldSpeed : Card → Signal → ℕ
+oldSpeed card s = signalSpeed card (s .curve) (s .man) (target card (s .codes .last) (s .codes .raise))
+
+-- raise becomes 0 before the new T is taken
+abbrev pub newTarget : Card → Record → ℕ
+newTarget card r = target card (r .code) 0
+
 module _ (card : Card) (s : Signal) (r : Record) where
-  -- S0, the old signal speed
-  abbrev pub oldSpeed : ℕ
-  oldSpeed = signalSpeed card (s .curve) (s .man) (target card (s .codes .last) (s .codes .raise))
-
-  -- raise becomes 0 before the new T is taken
-  abbrev pub newTarget : ℕ
-  newTarget = target card (r .code) 0
-
   -- if MAN is on it ends when the new T > v
   abbrev pub manStays : Bool
-  manStays = on (s .man) && leb newTarget (r .v)
+  manStays = on (s .man) && leb (newTarget card r) (r .v)
 
   -- with MAN off or just ended it begins after a gap: the last code was 0, k is not 0, g > 50, and T is below the target of k
   unfoldable pub gapMan : Bool
   gapMan =
       eqb (s .codes .last) none && not (eqb (s .codes .before) none) && ltb 50 (s .codes .gap)
-      && ltb newTarget (target card (s .codes .before) 0)
+      && ltb (newTarget card r) (target card (s .codes .before) 0)
 
+  -- where MAN stays on it keeps its speed, and the curve, if one runs beside it, is left alone
   unfoldable pub manByCode : ℕ
-  manByCode = cond (newCode s r) (cond manStays (s .man) (cond gapMan (manFrom (r .v)) 0)) (s .man)
+  manByCode = cond (newCode s r) (cond manStays (s .man) (cond gapMan (manAt (r .v)) 0)) (s .man)
 
   -- else a curve begins if T < S0
   unfoldable pub curveBegins : Bool
-  curveBegins = newCode s r && not manStays && not gapMan && ltb newTarget oldSpeed
+  curveBegins = newCode s r && not manStays && not gapMan && ltb (newTarget card r) (oldSpeed card s)
 
   unfoldable pub curveByCode : Curve
   curveByCode =
-      cond (newCode s r) (cond manStays (s .curve) (cond curveBegins (curveFrom oldSpeed) noCurve)) (s .curve)
+      cond (newCode s r) (cond manStays (s .curve) (cond curveBegins (curveFrom (oldSpeed card s)) noCurve)) (s .curve)
 
   abbrev pub turned : Turn
   turned = record { man = manByCode; curve = curveByCode; begins = curveBegins }

@@ -1,6 +1,6 @@
 -- Step 3: a PLUS press under code 3 raises its target. The codes are then those of the next tick.
 use Prim.Native.Nat.{ℕ, _+_}
-use mathlib.Core.Bool.{Bool, _&&_, cond}
+use mathlib.Core.Bool.{_&&_, cond}
 use lib.Dec.{ltb, eqb}
 use Rattle.record.specs.declared.Record.{Record}
 use Rattle.record.specs.declared.Keys.{Keys}
@@ -10,10 +10,10 @@ use Rattle.signal.specs.declared.Signal.{Signal}
 use Rattle.signal.specs.Ranges.{mostRaise}
 use Rattle.signal.specs.NewCode.{raiseByCode, beforeNext, gapNext}
 
-module _ (s : Signal) (r : Record) (k : Keys) where
+module _ (s : Signal) (r : Record) (keys : Keys) where
   unfoldable pub raiseNext : ℕ
   raiseNext =
-      cond (k .plus && eqb (r .code) forty && ltb (raiseByCode s r) mostRaise) (raiseByCode s r + 1) (raiseByCode s r)
+      cond (keys .plus && eqb (r .code) forty && ltb (raiseByCode s r) mostRaise) (raiseByCode s r + 1) (raiseByCode s r)
 
   abbrev pub codesNext : Codes
   codesNext = record { last = r .code; before = beforeNext s r; gap = gapNext s r; raise = raiseNext }

@@ -5,8 +5,15 @@ use lib.Dec.{eqb}
 use Rattle.card.specs.declared.Card.{Card}
 use Rattle.record.specs.Codes.{none, stop, warning, forty}
 
+-- of Warning, and of no code
+abbrev pub warningTarget : ℕ
+warningTarget = 1200
+
+abbrev pub clearTarget : ℕ
+clearTarget = 1600
+
 unfoldable pub target : Card → ℕ → ℕ → ℕ
 target card code raise =
-    cond (eqb code none || eqb code warning) 1200
+    cond (eqb code none || eqb code warning) warningTarget
     (cond (eqb code stop) (card .stop)
-    (cond (eqb code forty) (400 + 200 * raise) 1600))
+    (cond (eqb code forty) (400 + 200 * raise) clearTarget))

@@ -1,6 +1,5 @@
 // Steps 2 to 6 of a tick, in PRE: from the code on the rail to the signal speed.
 ghost use mathlib.Core.Path.{_≡_};
-ghost use mathlib.Core.Bool.{not};
 ghost use Prim.Native.Nat.{suc, _≤_, _-_, min, max};
 ghost use Rattle.card.specs.Card.{CardRanges};
 ghost use Rattle.reading.specs.Speed.{topSpeed};
@@ -35,7 +34,7 @@ pub struct Curve {
     pub start: u16,
     // c, its age in ticks
     pub age: u16,
-    // w, whether its one-time prompt was given
+    // w, whether its prompt of kind 1 was given
     pub given: u8,
 }
 
@@ -91,7 +90,7 @@ pub fn signal_in_range(s: Signal) -> bool
         & (s.man <= reading::TOP_SPEED)
 }
 
-pub fn target(card: Card, code: u8, raise: u8) -> u16
+fn target(card: Card, code: u8, raise: u8) -> u16
     requires { ⌜ CardRanges card × (raise ≤ mostRaise) ⌝ }
     ensures { λ t. ⌜ (t ≡ target card code raise) × (t ≤ topSpeed) ⌝ }
 {
@@ -124,7 +123,7 @@ pub fn curve_value(card: Card, curve: Curve, t: u16, age: u16) -> u16
     numbers::greater(t, left(curve.start, fallen))
 }
 
-pub fn signal_speed(card: Card, curve: Curve, man: u16, t: u16) -> u16
+fn signal_speed(card: Card, curve: Curve, man: u16, t: u16) -> u16
     requires { ⌜ CurveRanges curve × (man ≤ topSpeed) × (t ≤ topSpeed) ⌝ }
     ensures { λ x. ⌜ (x ≡ signalSpeed card curve man t) × (x ≤ topSpeed) ⌝ }
 {

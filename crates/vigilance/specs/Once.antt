@@ -10,7 +10,7 @@ use Rattle.vigilance.specs.declared.Once.{Once}
 use Rattle.vigilance.specs.declared.OneTime.{OneTime}
 use Rattle.vigilance.specs.Ranges.{promptTicks}
 
--- R
+-- lead R is 150 when set ≤ 1000, else 100
 unfoldable pub lead : Card → ℕ
 lead card = cond (leb (card .set) 1000) 150 100
 
@@ -18,41 +18,42 @@ lead card = cond (leb (card .set) 1000) 150 100
 unfoldable pub exceeds : Card → Curve → ℕ → ℕ → ℕ → Bool
 exceeds card curve t v age = ltb (curveValue card curve t age + card .tolerance) v
 
+-- u was above 0
+abbrev pub prompting : Once → Bool
+prompting old = ltb 0 (old .ticks)
+
+-- the grown u counts
+abbrev pub expires : Once → Bool
+expires old = leb promptTicks (old .ticks + 1)
+
+-- a vigilance press makes it 0; else it grows, and from 35 it triggers NZ1 and becomes 0; a prompt outlives its curve
+unfoldable pub onceLapses : Keys → Once → Bool
+onceLapses keys old = prompting old && not (keys .vigilance) && expires old
+
+unfoldable pub onceStays : Keys → Once → Bool
+onceStays keys old = prompting old && not (keys .vigilance) && not (expires old)
+
 -- curve, t: the curve and T as steps 2 to 5 leave them; begins: the curve began this tick
-module _ (card : Card) (curve : Curve) (begins : Bool) (t v : ℕ) (k : Keys) (o : Once) where
-  -- u was above 0
-  abbrev pub prompting : Bool
-  prompting = ltb 0 (o .ticks)
-
-  abbrev pub expires : Bool
-  expires = leb promptTicks (o .ticks + 1)
-
-  -- a vigilance press makes it 0; else it grows, and from 35 it triggers NZ1 and becomes 0
-  unfoldable pub onceLapses : Bool
-  onceLapses = prompting && not (k .vigilance) && expires
-
-  unfoldable pub onceStays : Bool
-  onceStays = prompting && not (k .vigilance) && not expires
-
+module _ (card : Card) (curve : Curve) (begins : Bool) (t v : ℕ) (keys : Keys) (old : Once) where
   -- u was 0 and a curve runs: if w = 0 and D(c + R), kind 1
   unfoldable pub asksAhead : Bool
-  asksAhead = not prompting && runs curve && eqb (curve .given) 0 && exceeds card curve t v (curve .age + lead card)
+  asksAhead = not (prompting old) && runs curve && eqb (curve .given) 0 && exceeds card curve t v (curve .age + lead card)
 
   -- else if the curve began this tick, not D(99 + R), and v > T + tolerance, kind 0
   unfoldable pub asksAtStart : Bool
   asksAtStart =
-      not prompting && runs curve && not asksAhead && begins && not (exceeds card curve t v (99 + lead card))
+      not (prompting old) && runs curve && not asksAhead && begins && not (exceeds card curve t v (99 + lead card))
       && ltb (t + card .tolerance) v
 
   unfoldable pub onceTicks : ℕ
-  onceTicks = cond onceStays (o .ticks + 1) (cond (asksAhead || asksAtStart) 1 0)
+  onceTicks = cond (onceStays keys old) (old .ticks + 1) (cond (asksAhead || asksAtStart) 1 0)
 
   -- when u is 0 its kind is 0
   unfoldable pub onceKind : ℕ
-  onceKind = cond onceStays (o .kind) (cond asksAhead 1 0)
+  onceKind = cond (onceStays keys old) (old .kind) (cond asksAhead 1 0)
 
   unfoldable pub givenNext : ℕ
   givenNext = cond asksAhead 1 (curve .given)
 
   abbrev pub asked : OneTime
-  asked = record { once = record { ticks = onceTicks; kind = onceKind }; given = givenNext; lapses = onceLapses }
+  asked = record { once = record { ticks = onceTicks; kind = onceKind }; given = givenNext; lapses = onceLapses keys old }

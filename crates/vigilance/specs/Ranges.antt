@@ -16,7 +16,7 @@ increased = 2
 abbrev pub longestCount : ℕ
 longestCount = 599
 
--- how long a prompt shows before it lapses
+-- a cyclic prompt shows for the last 35 ticks of its cycle; u, 1 in the tick in which a one-time prompt comes, lapses when it comes to 35
 abbrev pub promptTicks : ℕ
 promptTicks = 35
 

@@ -1,11 +1,11 @@
 // Steps 7 and 8 of a tick: the vigilance that the driver owes all the time, and the one that a curve asks once.
 ghost use mathlib.Core.Path.{_≡_};
 ghost use Prim.Native.Nat.{_≤_};
-ghost use Rattle.card.specs.Card.{CardRanges};
+ghost use Rattle.card.specs.Card.{mostCycle, CardRanges};
 ghost use Rattle.reading.specs.Speed.{topSpeed};
 ghost use Rattle.signal.specs.Ranges.{CurveRanges};
 ghost use Rattle.vigilance.specs.Ranges.{increased, WatchRanges, OnceRanges, OneTimeRanges, watchInRange, onceInRange};
-ghost use Rattle.vigilance.specs.Watch.{eased, watchKind, cycleLength, watched};
+ghost use Rattle.vigilance.specs.Watch.{eased, watchKind, increasedCycle, cycleLength, watched};
 ghost use Rattle.vigilance.specs.Once.{lead, exceeds, asked};
 use card::Card;
 use record::Keys;
@@ -51,9 +51,12 @@ const ORDINARY: u8 = 1;
 
 const INCREASED: u8 = 2;
 
+// The cycle of increased vigilance.
+const INCREASED_CYCLE: u16 = 120;
+
 const LONGEST_COUNT: u16 = 599;
 
-// How long a prompt shows before it lapses.
+// A cyclic prompt shows for the last 35 ticks of its cycle; a one-time prompt's u, 1 when it comes, lapses when it comes to 35.
 const PROMPT_TICKS: u8 = 35;
 
 pub fn watch_in_range(w: Watch) -> bool
@@ -94,10 +97,10 @@ pub fn watch_kind(mode: u8, s: Signal, r: Record, k: Keys) -> u8
 
 fn cycle_length(card: Card, kind: u8) -> u16
     requires { ⌜ CardRanges card ⌝ }
-    ensures { λ x. ⌜ (x ≡ cycleLength card kind) × ((120 ≤ x) × (x ≤ 600)) ⌝ }
+    ensures { λ x. ⌜ (x ≡ cycleLength card kind) × ((increasedCycle ≤ x) × (x ≤ mostCycle)) ⌝ }
 {
     if kind == INCREASED {
-        return 120;
+        return INCREASED_CYCLE;
     }
     card.cycle
 }

@@ -16,15 +16,12 @@ returns : tie.Need-returns
 unfolding openOutcome
 returns c = simp (← c .refused .ensures, ← c .before .no-desk .ensures, c .before .before .if1 .taken, ← c .before .before .before .card-in-range .ensures)
 
-fresh-desk-requires : tie.Need-fresh-desk-requires
-fresh-desk-requires c κs = search needs
-
-refused-requires-2 : tie.Need-refused-requires-2
-refused-requires-2 c κs = search needs
+begun-requires : tie.Need-begun-requires
+begun-requires c κs = search needs
 
 returns-2 : tie.Need-returns-2
 unfolding openOutcome
-returns-2 c = simp (← c .refused2 .ensures, ← c .before .fresh-desk .ensures, c .before .before .if1 .left, ← c .before .before .before .card-in-range .ensures)
+returns-2 c = simp (← c .begun .ensures, c .before .if1 .left, ← c .before .before .card-in-range .ensures)
 
 pub open-spec : {M : Type 1} → statement M
 open-spec =
@@ -34,6 +31,5 @@ open-spec =
     no-desk-requires
     refused-requires
     returns
-    fresh-desk-requires
-    refused-requires-2
+    begun-requires
     returns-2)
