@@ -1,5 +1,5 @@
 -- The mask of the causes, by computing each of its 32 values: what the counts of bits say of the list of held causes,
--- and that decoding a mask gives back the causes that made it.
+-- that decoding a mask gives back the causes that made it, and that with nothing let go the triggers join the mask.
 use Prim.Native.Nat.{ℕ, zero, suc, _+_, _≤_, _<_}
 use native.Mathlib.Nat.{not-suc-le-zero}
 use native.Mathlib.Omega.{arith}
@@ -7,10 +7,14 @@ use native.Mathlib.Decide.{ℕ-discrete}
 use mathlib.Core.Path.{_≡_, refl, sym, subst}
 use mathlib.Core.Bool.{Bool, true, false, _&&_, _||_, cond, Bool·beq}
 use lib.Dec.{T, leb, eqb, eqb→eq, leb→le}
+use lib.Bits.{bitOr}
 use lib.Count.{ones, onesIn, trailingZeros}
 use borrow.Author.Tests.{ne-eqb}
+use Rattle.record.specs.declared.Record.{Record}
+use Rattle.record.specs.declared.Keys.{Keys}
 use Rattle.causes.specs.declared.Causes.{Causes}
 use Rattle.causes.specs.Held.{heldIn, maskOf, listed, lowest, howMany}
+use Rattle.causes.specs.Keeping.{released, kept}
 
 -- ---- a test that passes at each number below n
 abbrev passes : (ℕ → Bool) → ℕ → Bool
@@ -68,7 +72,7 @@ pub lowest-none : lowest 0 ≡ 0
 unfolding lowest listed heldIn
 lowest-none = refl
 
--- ---- decoding: one test over five yes-or-noes
+-- ---- a test that passes at all causes
 abbrev both : (Bool → Bool) → Bool
 both f = f true && f false
 
@@ -76,28 +80,52 @@ pick : (f : Bool → Bool) → T (both f) → (b : Bool) → T (f b)
 pick f t true = first (f true) (f false) t
 pick f t false = second (f true) (f false) t
 
+abbrev five : Bool → Bool → Bool → Bool → Bool → Causes
+five a b c d e = record { nz1 = a; nz2 = b; nz3 = c; nz4 = d; nz5 = e }
+
+module _ (f : Causes → Bool) where
+  abbrev every : Bool
+  every = both (λ a. both (λ b. both (λ c. both (λ d. both (λ e. f (five a b c d e))))))
+
+  each : T every → (x : Causes) → T (f x)
+  each t x =
+      let a = pick (λ a. both (λ b. both (λ c. both (λ d. both (λ e. f (five a b c d e)))))) t (x .nz1) in
+      let b = pick (λ b. both (λ c. both (λ d. both (λ e. f (five (x .nz1) b c d e))))) a (x .nz2) in
+      let c = pick (λ c. both (λ d. both (λ e. f (five (x .nz1) (x .nz2) c d e)))) b (x .nz3) in
+      let d = pick (λ d. both (λ e. f (five (x .nz1) (x .nz2) (x .nz3) d e))) c (x .nz4) in
+      pick (λ e. f (five (x .nz1) (x .nz2) (x .nz3) (x .nz4) e)) d (x .nz5)
+
+-- ---- decoding
 same : (a b : Bool) → T (Bool·beq a b) → a ≡ b
 same true true t = refl
 same true false t = absurd t
 same false true t = absurd t
 same false false t = refl
 
-abbrev five : Bool → Bool → Bool → Bool → Bool → Causes
-five a b c d e = record { nz1 = a; nz2 = b; nz3 = c; nz4 = d; nz5 = e }
-
 module _ (bit : Causes → Bool) where
-  abbrev agrees : Bool → Bool → Bool → Bool → Bool → Bool
-  agrees a b c d e = Bool·beq (bit (heldIn (maskOf (five a b c d e)))) (bit (five a b c d e))
+  abbrev agrees : Causes → Bool
+  agrees x = Bool·beq (bit (heldIn (maskOf x))) (bit x)
 
-  decodes : T (both (λ a. both (λ b. both (λ c. both (λ d. both (agrees a b c d)))))) → (x : Causes) → bit (heldIn (maskOf x)) ≡ bit x
-  decodes t x =
-      let a = pick (λ a. both (λ b. both (λ c. both (λ d. both (agrees a b c d))))) t (x .nz1) in
-      let b = pick (λ b. both (λ c. both (λ d. both (agrees (x .nz1) b c d)))) a (x .nz2) in
-      let c = pick (λ c. both (λ d. both (agrees (x .nz1) (x .nz2) c d))) b (x .nz3) in
-      let d = pick (λ d. both (agrees (x .nz1) (x .nz2) (x .nz3) d)) c (x .nz4) in
-      same _ _ (pick (agrees (x .nz1) (x .nz2) (x .nz3) (x .nz4)) d (x .nz5))
+  decodes : T (every agrees) → (x : Causes) → bit (heldIn (maskOf x)) ≡ bit x
+  decodes t x = same _ _ (each agrees t x)
 
 pub held-mask : (c : Causes) → heldIn (maskOf c) ≡ c
 unfolding heldIn maskOf
 held-mask c =
     rw (decodes (λ x. x .nz1) tt c, decodes (λ x. x .nz2) tt c, decodes (λ x. x .nz3) tt c, decodes (λ x. x .nz4) tt c, decodes (λ x. x .nz5) tt c)
+
+-- ---- the triggers join the mask
+abbrev nothing : Causes
+nothing = five false false false false false
+
+joins : ℕ → Causes → Bool
+joins m t = right (bitOr m (maskOf t)) (maskOf (kept (heldIn m) t nothing)) 31
+
+joins-all : T (passes (λ m. every (joins m)) 32)
+unfolding joins maskOf kept heldIn
+joins-all = tt
+
+pub joined : (m : ℕ) → m ≤ 31 → (t : Causes) (p : ℕ) (r : Record) (k : Keys) → k .vigilance ≡ false
+    → (bitOr m (maskOf t) ≡ maskOf (kept (heldIn m) t (released p r k))) × (bitOr m (maskOf t) ≤ 31)
+unfolding joins released
+joined m h t p r k e = rw e (right-is _ _ 31 (each (joins m) (at (λ m. every (joins m)) 32 joins-all m (omega arith)) t))

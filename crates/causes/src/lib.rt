@@ -39,7 +39,7 @@ pub const FARTHEST: u16 = 3600;
 // All five causes.
 pub const ALL_HELD: u8 = 31;
 
-pub fn held_in(mask: u8) -> Causes
+fn held_in(mask: u8) -> Causes
     ensures { λ c. ⌜ c ≡ heldIn mask ⌝ }
 {
     Causes {
@@ -51,7 +51,7 @@ pub fn held_in(mask: u8) -> Causes
     }
 }
 
-pub fn mask_of(c: Causes) -> u8
+fn mask_of(c: Causes) -> u8
     ensures { λ m. ⌜ (m ≡ maskOf c) × (m ≤ allHeld) ⌝ }
 {
     numbers::weight(c.nz1, 1)
@@ -144,7 +144,7 @@ pub fn parked(card: Card, mode: u8, r: Record, k: Keys, held: bool, h: u16) -> S
 }
 
 // Step 10: what a vigilance press lets go.
-pub fn released(p: u16, r: Record, k: Keys) -> Causes
+fn released(p: u16, r: Record, k: Keys) -> Causes
     ensures { λ x. ⌜ x ≡ released p r k ⌝ }
 {
     Causes {
@@ -157,7 +157,7 @@ pub fn released(p: u16, r: Record, k: Keys) -> Causes
 }
 
 // Step 10: which causes are held then.
-pub fn kept(held: Causes, triggered: Causes, free: Causes) -> Causes
+fn kept(held: Causes, triggered: Causes, free: Causes) -> Causes
     ensures { λ x. ⌜ x ≡ kept held triggered free ⌝ }
 {
     Causes {
@@ -169,12 +169,27 @@ pub fn kept(held: Causes, triggered: Causes, free: Causes) -> Causes
     }
 }
 
-// Step 10: letting NZ3 go.
-pub fn wrongway_left(d: u16, held: Causes, triggered: Causes, free: Causes) -> u16
-    ensures { λ x. ⌜ (x ≡ wrongwayLeft d held triggered free) × (x ≤ d) ⌝ }
+// Step 10: the mask of the causes held then. Without a vigilance press none is let go.
+pub fn mask_next(mask: u8, triggered: Causes, p: u16, r: Record, k: Keys) -> u8
+    requires { ⌜ mask ≤ allHeld ⌝ }
+    ensures { λ m. ⌜ (m ≡ maskOf (kept (heldIn mask) triggered (released p r k))) × (m ≤ allHeld) ⌝ }
 {
-    if held.nz3 & !triggered.nz3 & free.nz3 {
-        return 0;
+    if k.vigilance {
+        return mask_of(kept(held_in(mask), triggered, released(p, r, k)));
+    }
+    mask | mask_of(triggered)
+}
+
+// Step 10: letting NZ3 go.
+pub fn wrongway_left(d: u16, mask: u8, triggered: Causes, p: u16, r: Record, k: Keys) -> u16
+    ensures { λ x. ⌜ (x ≡ wrongwayLeft d (heldIn mask) triggered (released p r k)) × (x ≤ d) ⌝ }
+{
+    if k.vigilance {
+        let held = held_in(mask);
+        let free = released(p, r, k);
+        if held.nz3 & !triggered.nz3 & free.nz3 {
+            return 0;
+        }
     }
     d
 }

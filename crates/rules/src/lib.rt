@@ -251,13 +251,17 @@ fn state_next(card: Card, s: State, r: Record, f: Findings) -> State
     requires { ⌜ CardRanges card × StateRanges s × FindingsRanges f ⌝ }
     ensures { λ x. ⌜ (x ≡ stateNext card s r f) × StateRanges x ⌝ }
 {
-    let held = causes::held_in(s.causes);
     let triggered = triggered(card, s, r, f);
     let keys = f.keys;
-    let released = causes::released(f.permitted, r, keys);
-    let kept = causes::kept(held, triggered, released);
-    let wrongway = causes::wrongway_left(f.moved.wrongway, held, triggered, released);
-    let mask = causes::mask_of(kept);
+    let mask = causes::mask_next(s.causes, triggered, f.permitted, r, keys);
+    let wrongway = causes::wrongway_left(
+        f.moved.wrongway,
+        s.causes,
+        triggered,
+        f.permitted,
+        r,
+        keys,
+    );
     let codes = f.aspect.signal.codes;
     let once = f.once.once;
     let watch = f.cyclic.watch;

@@ -4,30 +4,23 @@ use borrow.Author.Needs.{needs}
 use Rattle.rules.proofs.state_next.Statement.{statement}
 use Rattle.rules.proofs.state_next.Tie as tie
 
-held-in-requires : tie.Need-held-in-requires
-held-in-requires c κs = search needs
-
 triggered-requires : tie.Need-triggered-requires
 triggered-requires c κs = search needs
 
-released-requires : tie.Need-released-requires
-released-requires c κs = search needs
-
-kept-requires : tie.Need-kept-requires
-kept-requires c κs = search needs
+mask-next-requires : tie.Need-mask-next-requires
+mask-next-requires c κs = search needs
 
 wrongway-left-requires : tie.Need-wrongway-left-requires
 wrongway-left-requires c κs = search needs
 
-mask-of-requires : tie.Need-mask-of-requires
-mask-of-requires c κs = search needs
-
 returns : tie.Need-returns
 unfolding stateNext heldNext wrongwayNext
 returns c =
-    let state = c .before .before .before .before .before .before .before .before .before .before .before .pre .1 in
-    let f = c .before .before .before .before .before .before .before .before .before .before .before .pre .2 in (
-      simp (← c .before .before .before .before .mask-of .ensures .0, ← c .before .before .before .before .before .wrongway-left .ensures .0, ← c .before .before .before .before .before .before .kept .ensures, ← c .before .before .before .before .before .before .before .released .ensures, ← c .before .before .before .before .before .before .before .before .before .triggered .ensures, ← c .before .before .before .before .before .before .before .before .before .before .held-in .ensures),
+    let c4 = c .before .before .before .before in
+    let triggered = c4 .before .before .before in
+    let state = triggered .before .pre .1 in
+    let f = triggered .before .pre .2 in (
+      simp (← c4 .wrongway-left .ensures .0, ← c4 .before .mask-next .ensures .0, ← triggered .triggered .ensures),
       record {
         mode-least = state .mode-least;
         mode-most = state .mode-most;
@@ -39,20 +32,12 @@ returns c =
         };
         once = f .once .once;
         watch = f .watch;
-        wrongway-most = omega (arith, f .wrongway-most, c .before .before .before .before .before .wrongway-left .ensures .1);
+        wrongway-most = omega (arith, f .wrongway-most, c4 .wrongway-left .ensures .1);
         standing-most = f .standing-most;
-        causes-most = c .before .before .before .before .mask-of .ensures .1;
+        causes-most = c4 .before .mask-next .ensures .1;
       },
     )
 
 pub state-next-spec : {M : Type 1} → statement M
 state-next-spec =
-    tie.close
-    (tie.spec
-    held-in-requires
-    triggered-requires
-    released-requires
-    kept-requires
-    wrongway-left-requires
-    mask-of-requires
-    returns)
+    tie.close (tie.spec triggered-requires mask-next-requires wrongway-left-requires returns)
