@@ -137,25 +137,23 @@ fn entered(s: State, r: Record) -> State
     ensures { λ x. ⌜ (x ≡ entered s r) × StateRanges x ⌝ }
 {
     let mode = mode_now(s, r);
-    let none = no_signal();
-    let quiet = Once { ticks: 0, kind: 0 };
     let mut x = s;
     x.mode = mode;
     if mode == s.mode {
         if mode == record::PRE {
             return x;
         }
+        let none = no_signal();
+        let quiet = Once { ticks: 0, kind: 0 };
         x.signal = none;
         x.once = quiet;
         return x;
     }
-    x.signal = none;
-    x.once = quiet;
-    let unwatched = Watch { kind: 0, ticks: 0 };
-    x.watch = unwatched;
-    x.wrongway = 0;
-    x.standing = 0;
-    x
+    let mut cleared = fresh_state();
+    cleared.mode = mode;
+    cleared.buttons = s.buttons;
+    cleared.causes = s.causes;
+    cleared
 }
 
 // Steps 2 to 6, in PRE alone.
