@@ -1,11 +1,13 @@
 // Steps 7 and 8 of a tick: the vigilance that the driver owes all the time, and the one that a curve asks once.
 ghost use mathlib.Core.Path.{_≡_};
-ghost use Prim.Native.Nat.{_≤_};
+ghost use mathlib.Core.Bool.{not, _&&_};
+ghost use lib.Dec.{eqb, ltb};
+ghost use Prim.Native.Nat.{_+_, _≤_};
 ghost use Rattle.card.specs.Card.{mostCycle, CardRanges};
 ghost use Rattle.reading.specs.Speed.{topSpeed};
 ghost use Rattle.signal.specs.Ranges.{CurveRanges};
 ghost use Rattle.vigilance.specs.Ranges.{increased, WatchRanges, OnceRanges, OneTimeRanges, watchInRange, onceInRange};
-ghost use Rattle.vigilance.specs.Watch.{eased, watchKind, increasedCycle, cycleLength, watched};
+ghost use Rattle.vigilance.specs.Watch.{eased, asksIncreased, watchKind, increasedCycle, cycleLength, watched};
 ghost use Rattle.vigilance.specs.Once.{lead, exceeds, asked};
 use card::Card;
 use record::Keys;
@@ -77,18 +79,36 @@ fn eased(r: Record, k: Keys) -> bool
     (r.v == 0) | (k.brake & (r.v < 150))
 }
 
+fn asks_increased(mode: u8, s: Signal, r: Record, k: Keys) -> bool
+    ensures { λ x. ⌜ x ≡ asksIncreased mode s r k ⌝ }
+{
+    if mode != record::PRE {
+        return false;
+    }
+    if 0 < s.man {
+        return true;
+    }
+    let eased = eased(r, k);
+    if r.code == record::STOP {
+        return !(0 < s.curve.start) & !eased;
+    }
+    if r.code == record::FORTY {
+        return (1 <= s.codes.raise) & !eased;
+    }
+    if r.code == record::WARNING {
+        return !(0 < s.curve.start) & (900 < r.v);
+    }
+    false
+}
+
 // Step 7: which vigilance is asked.
 pub fn watch_kind(mode: u8, s: Signal, r: Record, k: Keys) -> u8
     ensures { λ x. ⌜ (x ≡ watchKind mode s r k) × (x ≤ increased) ⌝ }
 {
-    let eased = eased(r, k);
-    let strict = (0 < s.man)
-        | ((r.code == record::STOP) & !(0 < s.curve.start) & !eased)
-        | ((r.code == record::FORTY) & (1 <= s.codes.raise) & !eased)
-        | ((r.code == record::WARNING) & !(0 < s.curve.start) & (900 < r.v));
-    if (mode == record::PRE) & strict {
+    if asks_increased(mode, s, r, k) {
         return INCREASED;
     }
+    let eased = eased(r, k);
     if ((mode == record::PRE) | (mode == record::VYL)) & !eased {
         return ORDINARY;
     }
@@ -159,6 +179,31 @@ fn exceeds(card: Card, curve: Curve, t: u16, v: u16, age: u16) -> bool
     signal::curve_value(card, curve, t, age) + card.tolerance < v
 }
 
+// Step 8, with a curve: whether the prompt ahead of the curve is due.
+fn asks_ahead(card: Card, curve: Curve, t: u16, v: u16) -> bool
+    requires { ⌜ CardRanges card × CurveRanges curve × (t ≤ topSpeed) ⌝ }
+    ensures { λ x. ⌜ x ≡ (eqb (curve .given) 0 && exceeds card curve t v (curve .age + lead card)) ⌝ }
+{
+    if curve.given == 0 {
+        let lead = lead(card);
+        return exceeds(card, curve, t, v, curve.age + lead);
+    }
+    false
+}
+
+// Step 8, with a curve: whether the prompt at the curve's start is due.
+fn asks_at_start(card: Card, curve: Curve, begins: bool, t: u16, v: u16) -> bool
+    requires { ⌜ CardRanges card × CurveRanges curve × (t ≤ topSpeed) ⌝ }
+    ensures { λ x. ⌜ x ≡ (begins && not (exceeds card curve t v (99 + lead card)) && ltb (t + card .tolerance) v) ⌝ }
+{
+    if begins {
+        let lead = lead(card);
+        let late = exceeds(card, curve, t, v, 99 + lead);
+        return !late & (t + card.tolerance < v);
+    }
+    false
+}
+
 // Step 8.
 pub fn asked(card: Card, curve: Curve, begins: bool, t: u16, v: u16, k: Keys, o: Once) -> OneTime
     requires { ⌜ CardRanges card × CurveRanges curve × (t ≤ topSpeed) × OnceRanges o ⌝ }
@@ -189,17 +234,14 @@ pub fn asked(card: Card, curve: Curve, begins: bool, t: u16, v: u16, k: Keys, o:
         };
     }
     if 0 < curve.start {
-        let lead = lead(card);
-        let ahead = exceeds(card, curve, t, v, curve.age + lead);
-        if (curve.given == 0) & ahead {
+        if asks_ahead(card, curve, t, v) {
             return OneTime {
                 once: Once { ticks: 1, kind: 1 },
                 given: 1,
                 lapses: false,
             };
         }
-        let late = exceeds(card, curve, t, v, 99 + lead);
-        if begins & !late & (t + card.tolerance < v) {
+        if asks_at_start(card, curve, begins, t, v) {
             return OneTime {
                 once: Once { ticks: 1, kind: 0 },
                 given: curve.given,

@@ -15,42 +15,30 @@ returns-2 : tie.Need-returns-2
 unfolding onceLapses onceStays asksAhead asksAtStart onceTicks onceKind givenNext
 returns-2 c = (simp (le-leb _ _ (c .if3 .taken), c .before .before .if2 .left, lt-ltb _ _ (c .before .before .before .if1 .taken)), search needs)
 
-add-t14 : tie.Need-add-t14
-add-t14 c = search needs
+add-t11 : tie.Need-add-t11
+add-t11 c = search needs
 
 returns-3 : tie.Need-returns-3
 unfolding onceLapses onceStays asksAhead asksAtStart onceTicks onceKind givenNext
 returns-3 c = (simp (lt-leb _ _ (c .before .if3 .left), c .before .before .before .if2 .left, lt-ltb _ _ (c .before .before .before .before .if1 .taken)), search needs)
 
-lead-requires : tie.Need-lead-requires
-lead-requires c κs = search needs
-
-add-exceeds : tie.Need-add-exceeds
-add-exceeds c = search needs
-
-exceeds-requires : tie.Need-exceeds-requires
-exceeds-requires c κs = search needs
+asks-ahead-requires : tie.Need-asks-ahead-requires
+asks-ahead-requires c κs = search needs
 
 returns-4 : tie.Need-returns-4
 unfolding onceLapses onceStays asksAhead asksAtStart onceTicks onceKind givenNext
-returns-4 c = (simp (c .if5 .taken, ← c .before .before .exceeds .ensures, ← c .before .before .before .before .lead .ensures .0, lt-ltb _ _ (c .before .before .before .before .before .if4 .taken), le-ltb _ _ (c .before .before .before .before .before .before .before .if1 .left)), search needs)
+returns-4 c = (simp (c .if5 .taken, ← c .before .asks-ahead .ensures, lt-ltb _ _ (c .before .before .if4 .taken), le-ltb _ _ (c .before .before .before .before .if1 .left)), search needs)
 
-add-exceeds-2 : tie.Need-add-exceeds-2
-add-exceeds-2 c = search needs
-
-exceeds-requires-2 : tie.Need-exceeds-requires-2
-exceeds-requires-2 c κs = search needs
-
-add-if6 : tie.Need-add-if6
-add-if6 c = search needs
+asks-at-start-requires : tie.Need-asks-at-start-requires
+asks-at-start-requires c κs = search needs
 
 returns-5 : tie.Need-returns-5
 unfolding onceLapses onceStays asksAhead asksAtStart onceTicks onceKind givenNext
-returns-5 c = (simp (c .if6 .taken, ← c .before .before .exceeds2 .ensures, c .before .before .before .if5 .left, ← c .before .before .before .before .before .exceeds .ensures, ← c .before .before .before .before .before .before .before .lead .ensures .0, lt-ltb _ _ (c .before .before .before .before .before .before .before .before .if4 .taken), le-ltb _ _ (c .before .before .before .before .before .before .before .before .before .before .if1 .left)), search needs)
+returns-5 c = (simp (c .if6 .taken, ← c .before .asks-at-start .ensures, c .before .before .if5 .left, ← c .before .before .before .asks-ahead .ensures, lt-ltb _ _ (c .before .before .before .before .if4 .taken), le-ltb _ _ (c .before .before .before .before .before .before .if1 .left)), search needs)
 
 returns-6 : tie.Need-returns-6
 unfolding onceLapses onceStays asksAhead asksAtStart onceTicks onceKind givenNext
-returns-6 c = (simp (c .if6 .left, ← c .before .before .exceeds2 .ensures, c .before .before .before .if5 .left, ← c .before .before .before .before .before .exceeds .ensures, ← c .before .before .before .before .before .before .before .lead .ensures .0, lt-ltb _ _ (c .before .before .before .before .before .before .before .before .if4 .taken), le-ltb _ _ (c .before .before .before .before .before .before .before .before .before .before .if1 .left)), search needs)
+returns-6 c = (simp (c .if6 .left, ← c .before .asks-at-start .ensures, c .before .before .if5 .left, ← c .before .before .before .asks-ahead .ensures, lt-ltb _ _ (c .before .before .before .before .if4 .taken), le-ltb _ _ (c .before .before .before .before .before .before .if1 .left)), search needs)
 
 returns-7 : tie.Need-returns-7
 unfolding onceLapses onceStays asksAhead asksAtStart onceTicks onceKind givenNext
@@ -63,15 +51,11 @@ asked-spec =
     returns
     add-if3
     returns-2
-    add-t14
+    add-t11
     returns-3
-    lead-requires
-    add-exceeds
-    exceeds-requires
+    asks-ahead-requires
     returns-4
-    add-exceeds-2
-    exceeds-requires-2
-    add-if6
+    asks-at-start-requires
     returns-5
     returns-6
     returns-7)

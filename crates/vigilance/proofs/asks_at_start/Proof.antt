@@ -1,0 +1,25 @@
+use borrow.Author.Needs.{needs}
+use Rattle.vigilance.proofs.asks_at_start.Statement.{statement}
+use Rattle.vigilance.proofs.asks_at_start.Tie as tie
+
+lead-requires : tie.Need-lead-requires
+lead-requires c κs = search needs
+
+add-exceeds : tie.Need-add-exceeds
+add-exceeds c = search needs
+
+exceeds-requires : tie.Need-exceeds-requires
+exceeds-requires c κs = search needs
+
+add-result : tie.Need-add-result
+add-result c = search needs
+
+returns : tie.Need-returns
+returns c = simp (← c .before .exceeds .ensures, ← c .before .before .lead .ensures .0, c .before .before .before .if1 .taken)
+
+returns-2 : tie.Need-returns-2
+returns-2 c = search needs
+
+pub asks-at-start-spec : {M : Type 1} → statement M
+asks-at-start-spec =
+    tie.close (tie.spec lead-requires add-exceeds exceeds-requires add-result returns returns-2)
