@@ -10,7 +10,7 @@ ghost use Rattle.causes.specs.Held.{allHeld};
 ghost use Rattle.rules.specs.State.{fresh, noSignal, StateRanges, stateInRange};
 ghost use Rattle.rules.specs.Mode.{modeNow, entered};
 ghost use Rattle.rules.specs.Permitted.{ceiling, permitted};
-ghost use Rattle.rules.specs.Tick.{keysIn, aspectIn, found, FindingsRanges, triggered, stateNext, marks, answer, advance};
+ghost use Rattle.rules.specs.Tick.{keysIn, aspectIn, found, FindingsRanges, triggered, stateNext, marks, ticked, advance};
 use card::Card;
 use causes::Causes;
 use causes::Moved;
@@ -294,20 +294,25 @@ fn marks(f: Findings) -> u8
         + numbers::weight(f.stood.sounds, 32)
 }
 
-fn answer_of(f: Findings, causes: u8) -> Answer
-    requires { ⌜ causes ≤ allHeld ⌝ }
-    ensures { λ x. ⌜ x ≡ answer f causes ⌝ }
+// Step 10 and the answer.
+fn ticked(card: Card, s: State, r: Record, f: Findings) -> Advanced
+    requires { ⌜ CardRanges card × StateRanges s × FindingsRanges f ⌝ }
+    ensures { λ x. ⌜ (x ≡ ticked card s r f) × StateRanges (x .state) ⌝ }
 {
+    let next = state_next(card, s, r, f);
     let marks = marks(f);
-    let lowest = causes::lowest(causes);
-    let held = causes::how_many(causes);
-    Answer {
-        permitted: f.permitted,
-        target: f.aspect.target,
-        marks: marks,
-        causes: causes,
-        lowest: lowest,
-        held: held,
+    let lowest = causes::lowest(next.causes);
+    let held = causes::how_many(next.causes);
+    Advanced {
+        state: next,
+        answer: Answer {
+            permitted: f.permitted,
+            target: f.aspect.target,
+            marks: marks,
+            causes: next.causes,
+            lowest: lowest,
+            held: held,
+        },
     }
 }
 
@@ -318,10 +323,5 @@ pub fn advance(card: Card, state: State, r: Record) -> Advanced
 {
     let s = entered(state, r);
     let f = found(card, s, r);
-    let next = state_next(card, s, r, f);
-    let answer = answer_of(f, next.causes);
-    Advanced {
-        state: next,
-        answer: answer,
-    }
+    ticked(card, s, r, f)
 }

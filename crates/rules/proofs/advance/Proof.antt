@@ -1,4 +1,4 @@
-use Rattle.rules.specs.Tick.{advance, ticked}
+use Rattle.rules.specs.Tick.{advance}
 use borrow.Author.Needs.{needs}
 use Rattle.rules.proofs.advance.Statement.{statement}
 use Rattle.rules.proofs.advance.Tie as tie
@@ -9,17 +9,12 @@ entered-requires c κs = search needs
 found-requires : tie.Need-found-requires
 found-requires c κs = search needs
 
-state-next-requires : tie.Need-state-next-requires
-state-next-requires c κs = search needs
-
-answer-of-requires : tie.Need-answer-of-requires
-answer-of-requires c κs = search needs
+ticked-requires : tie.Need-ticked-requires
+ticked-requires c κs = search needs
 
 returns : tie.Need-returns
-unfolding advance ticked
-returns c = (simp (← c .answer-of .ensures, ← c .before .state-next .ensures .0, ← c .before .before .found .ensures .0, ← c .before .before .before .entered .ensures .0), search needs)
+unfolding advance
+returns c = (simp (← c .ticked .ensures .0, ← c .before .found .ensures .0, ← c .before .before .entered .ensures .0), search needs)
 
 pub advance-spec : {M : Type 1} → statement M
-advance-spec =
-    tie.close
-    (tie.spec entered-requires found-requires state-next-requires answer-of-requires returns)
+advance-spec = tie.close (tie.spec entered-requires found-requires ticked-requires returns)
