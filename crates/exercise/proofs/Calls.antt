@@ -15,7 +15,7 @@ use Rattle.card.specs.Card.{CardRanges, cardInRange}
 use Rattle.card.proofs.Ranges.{card-ranges}
 use Rattle.record.specs.Sample.{firstRefusal}
 use Rattle.record.proofs.Refusal.{both-zero, first-zero, first-some}
-use Rattle.exercise.specs.File.{mostRuns, headerGood, cardCount, runCount, cardIn, cardsInRange}
+use Rattle.exercise.specs.File.{headerGood, cardCount, runCount, cardIn, cardsInRange}
 use Rattle.exercise.specs.Runs.{ticksTo, runsRefusal}
 use Rattle.exercise.specs.declared.Ran.{Ran}
 use Rattle.exercise.proofs.Runs.{fault, runs-first}
@@ -78,12 +78,9 @@ module _ (file : List ℕ) where
   unfolding readOutcome readRefusal
   read-by-none h k = rw (h, first-zero, k)
 
-  cards-good : cardsRefusal file ≡ 0 → (runCount file ≤ mostRuns) × (cardsInRange file (cardCount file) ≡ true)
-  unfolding cardsRefusal headerGood
-  cards-good h =
-      let a = zero-if (headerGood file) 10 _ (omega arith) h in
-      let f = simp (and-iff, leb-iff) at (a .0) in
-      (omega (arith, f), zero-if (cardsInRange file (cardCount file)) 4 0 (omega arith) (a .1) .0)
+  cards-good : cardsRefusal file ≡ 0 → cardsInRange file (cardCount file) ≡ true
+  unfolding cardsRefusal
+  cards-good h = zero-if (cardsInRange file (cardCount file)) 4 0 (omega arith) (zero-if (headerGood file) 10 _ (omega arith) h .1) .0
 
 -- ---- a run
 module _ (file : List ℕ) (card room : ℕ) where
@@ -131,16 +128,11 @@ module _ (file : List ℕ) (card room : ℕ) where
       go true e = rw e (sym (eqb-true _ 0 e))
       go false e = rw e
 
-  pub run-ticks : runRefusal file card room ≡ 0 → runOutcome file card room .ticks ≡ tickCount file
-  unfolding runOutcome
-  run-ticks e = rw e
-
 -- what an accepted run says
 pub record RunTaken (file : List ℕ) (card room : ℕ) : Type 0 where
   pub low : 1 ≤ card
   pub high : card ≤ cardCount file
   pub card-good : CardRanges (cardIn file (card - 1))
-  pub runs-most : runCount file ≤ mostRuns
   pub runs-good : runsRefusal file (runCount file) ≡ 0
   pub fits : answerWidth * tickCount file ≤ room
 
@@ -156,8 +148,7 @@ run-taken file card room e =
     record {
       low = low;
       high = high;
-      card-good = card-ranges _ (all-each (λ i. cardInRange (cardIn file i)) (card - 1) (cardCount file) (omega arith) (cards-good file (a .0) .1));
-      runs-most = cards-good file (a .0) .0;
+      card-good = card-ranges _ (all-each (λ i. cardInRange (cardIn file i)) (card - 1) (cardCount file) (omega arith) (cards-good file (a .0)));
       runs-good = c .0;
       fits = ltb-false _ _ (room-left (ltb room (answerWidth * tickCount file)) (c .1));
     }

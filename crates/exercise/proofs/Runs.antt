@@ -16,10 +16,8 @@ use Rattle.record.specs.Record.{recordInRange}
 use Rattle.record.specs.Sample.{firstRefusal}
 use Rattle.record.proofs.Refusal.{both-zero, first-zero, first-some}
 use Rattle.desk.specs.Journal.{mostTicks}
-use Rattle.exercise.specs.declared.Place.{Place}
 use Rattle.exercise.specs.File.{runCount, runTicks, runRecord}
 use Rattle.exercise.specs.Runs.{ticksTo, runFault, runsRefusal, tickRecord}
-use Rattle.exercise.specs.Place.{PlaceGood}
 
 -- ---- a run
 pub record RunGood (before ticks : ℕ) (r : Record) : Type 0 where
@@ -102,64 +100,26 @@ module _ (file : List ℕ) where
       rw (lt-leb _ _ n) (tick-is j m i h a b))
       (eq-or-lt-of-le (le-of-suc-le-suc l))
 
--- ---- the place in the exercise
-module _ (file : List ℕ) (i : ℕ) (p : Place) (g : PlaceGood file i p) where
-  pub place-stays : i < p .end → p .each ≡ tickRecord file (runCount file) i
-  unfolding ticksTo
-  place-stays h = go (p .begun) refl
-    where
-      go : (b : ℕ) → p .begun ≡ b → p .each ≡ tickRecord file (runCount file) i
-      go zero e = let z : p .end ≡ 0 = g .end-is ∙ ap (ticksTo file) e in absurd (omega arith)
-      go (suc j) e =
-          let c = g .current j e in
-          let m = g .begun-most in
-          let end : p .end ≡ ticksTo file (j + 1) = g .end-is ∙ ap (ticksTo file) (e ∙ sym (add-one j)) in
-          c .0 ∙ sym (tick-is file j (runCount file) i (omega arith) (c .1) (omega arith))
+  -- ---- a run that is driven up to `end`: it ends where the next begins, and its record, in range, is that of each of its ticks
+  pub record RunDriven (j end : ℕ) (r : Record) : Type 0 where
+    pub ends : end ≡ ticksTo file (j + 1)
+    pub most : end ≤ mostTicks
+    pub within : end ≤ ticksTo file (runCount file)
+    pub good : recordInRange r ≡ true
+    pub each : (i : ℕ) → ticksTo file j ≤ i → i < end → r ≡ tickRecord file (runCount file) i
 
-  pub place-good : runsRefusal file (runCount file) ≡ 0 → i < p .end → recordInRange (p .each) ≡ true
-  unfolding ticksTo
-  place-good none h = go (p .begun) refl
-    where
-      go : (b : ℕ) → p .begun ≡ b → recordInRange (p .each) ≡ true
-      go zero e = let z : p .end ≡ 0 = g .end-is ∙ ap (ticksTo file) e in absurd (omega arith)
-      go (suc j) e =
-          let m = g .begun-most in
-          ap recordInRange (g .current j e .0) ∙ runs-each file j (runCount file) (omega arith) none .good
-
-  pub place-next : i < p .end → PlaceGood file (i + 1) p
-  place-next h =
+  pub run-driven : (runs j from ticks : ℕ) (r : Record) → runsRefusal file (runCount file) ≡ 0 → runs ≡ runCount file → j < runs
+      → from ≡ ticksTo file j → ticks ≡ runTicks file j → r ≡ runRecord file j → RunDriven j (from + ticks) r
+  run-driven runs j from ticks r none n l f t e =
+      let there : j < runCount file = omega arith in
+      let run = runs-each j (runCount file) there none in
+      let ends : from + ticks ≡ ticksTo file (j + 1) = ap₂ _+_ f t ∙ sym (ticks-next j) in
+      let up = ticks-up (j + 1) (runCount file) (omega arith) in
+      let fits = run .fits in
       record {
-        end-is = g .end-is;
+        ends = ends;
+        most = omega arith;
         within = omega arith;
-        begun-most = g .begun-most;
-        current = λ j e. let c = g .current j e in (c .0, let l = c .1 in omega arith);
+        good = ap recordInRange e ∙ run .good;
+        each = λ i a b. e ∙ sym (tick-is j (runCount file) i there a (omega arith));
       }
-
-  module _ (none : runsRefusal file (runCount file) ≡ 0) (left : p .end ≤ i) (more : i < ticksTo file (runCount file)) where
-    pub place-here : i ≡ p .end
-    place-here = let w = g .within in omega arith
-
-    pub begun-less : p .begun < runCount file
-    begun-less =
-        ⊎-elim
-        (λ (e : p .begun ≡ runCount file). let z : p .end ≡ ticksTo file (runCount file) = g .end-is ∙ ap (ticksTo file) e in absurd (omega arith))
-        (λ (l : p .begun < runCount file). l)
-        (eq-or-lt-of-le (g .begun-most))
-
-    pub place-moves : (ticks : ℕ) (r : Record) → ticks ≡ runTicks file (p .begun) → r ≡ runRecord file (p .begun)
-        → PlaceGood file i (record { begun = p .begun + 1; end = p .end + ticks; each = r }) × (i < p .end + ticks)
-    place-moves ticks r t e =
-        let run = runs-each file (p .begun) (runCount file) begun-less none in
-        let some = run .some in
-        let here = place-here in
-        let less = begun-less in (
-          record {
-            end-is = ap₂ _+_ (g .end-is) t ∙ sym (ticks-next file (p .begun));
-            within = omega arith;
-            begun-most = omega arith;
-            current = λ j q.
-                let b : j ≡ p .begun = omega arith in
-                (e ∙ ap (runRecord file) (sym b), let z = g .end-is in let y = ap (ticksTo file) b in omega arith);
-          },
-          omega arith,
-        )

@@ -1,5 +1,4 @@
 pub mod File
 pub mod Runs
-pub mod Place
 pub mod Answers
 pub mod Calls

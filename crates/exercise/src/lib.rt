@@ -5,9 +5,8 @@ ghost use lib.ListN.{length};
 ghost use Rattle.layout.specs.Layout.{written};
 ghost use Rattle.card.specs.Card.{CardRanges};
 ghost use Rattle.desk.specs.Journal.{mostTicks};
-ghost use Rattle.exercise.specs.File.{mostRuns, headerGood, cardsInRange, runCount, runsFrom, runTicks, runRecord};
+ghost use Rattle.exercise.specs.File.{headerGood, cardsInRange, runCount, runsFrom, runTicks, runRecord};
 ghost use Rattle.exercise.specs.Runs.{runFault, runsRefusal};
-ghost use Rattle.exercise.specs.Place.{PlaceGood};
 ghost use Rattle.exercise.specs.Answers.{answerWidth, answerBytes, answers};
 ghost use Rattle.exercise.specs.Calls.{tickCount, drive, runsRead, cardsRefusal, readOutcome, runOutcome, runBuffer};
 use card::CARD_WIDTH;
@@ -15,7 +14,7 @@ use card::Card;
 use layout::u16_at;
 use record::RECORD_WIDTH;
 use record::Record;
-use rules::Answer;
+use rules::Advanced;
 
 // What the reader found: the number of its refusal, 0 where there is none, and the counts.
 pub struct Counts {
@@ -29,13 +28,6 @@ pub struct Counts {
 pub struct Ran {
     pub refusal: u8,
     pub ticks: u16,
-}
-
-// Where a run of the exercise stands: the runs begun, the ticks up to the end of the last of them, and the record of each of its ticks.
-pub struct Place {
-    pub begun: usize,
-    pub end: usize,
-    pub each: Record,
 }
 
 const HEADER_WIDTH: usize = 10;
@@ -233,68 +225,43 @@ fn run_outcome(file: &[u8], card: u32, room: usize) -> Ran
     runs
 }
 
-// The place at the tick i: the next run begins where the last one ended.
-fn place_at(file: &[u8], p: Place, i: usize) -> Place
-    requires { ⌜ (runsRefusal (now file) (runCount (now file)) ≡ 0) × (runCount (now file) ≤ mostRuns) × PlaceGood (now file) i p × (i < tickCount (now file)) ⌝ }
-    ensures { λ x. ⌜ PlaceGood (now (file .entry)) i x × ((i < x .end) × (x .each ≡ drive (now (file .entry)) i)) ⌝ }
-{
-    if i < p.end {
-        return p;
-    }
-    let ticks = run_ticks(file, p.begun);
-    let r = run_record(file, p.begun);
-    Place {
-        begun: p.begun + 1,
-        end: p.end + ticks,
-        each: r,
-    }
-}
-
-fn put_answer(buffer: &mut [u8], at: usize, a: Answer)
+// Writes the answer of a tick in the 8 bytes from `at`.
+fn put_answer(buffer: &mut [u8], at: usize, tick: Advanced)
     requires { ⌜ at + answerWidth ≤ length (now buffer) ⌝ }
-    ensures { λ _. ⌜ now (buffer .exit) ≡ written (now (buffer .entry)) at (answerBytes a) ⌝ }
+    ensures { λ _. ⌜ now (buffer .exit) ≡ written (now (buffer .entry)) at (answerBytes (tick .answer)) ⌝ }
 {
-    let p = a.permitted;
-    let t = a.target;
+    let p = tick.answer.permitted;
+    let t = tick.answer.target;
     buffer[at] = (p % 256) as u8;
     buffer[at + 1] = (p / 256 % 256) as u8;
     buffer[at + 2] = (t % 256) as u8;
     buffer[at + 3] = (t / 256 % 256) as u8;
-    buffer[at + 4] = a.marks;
-    buffer[at + 5] = a.causes;
-    buffer[at + 6] = a.lowest;
-    buffer[at + 7] = a.held;
+    buffer[at + 4] = tick.answer.marks;
+    buffer[at + 5] = tick.answer.causes;
+    buffer[at + 6] = tick.answer.lowest;
+    buffer[at + 7] = tick.answer.held;
 }
 
-// Drives the ticks of a file that was read, from a fresh state, and writes their answers.
-fn answer_all(file: &[u8], card: Card, ticks: usize, buffer: &mut [u8])
-    requires { ⌜ CardRanges card × (runsRefusal (now file) (runCount (now file)) ≡ 0) × (runCount (now file) ≤ mostRuns) × (ticks ≡ tickCount (now file)) × (answerWidth * ticks ≤ length (now buffer)) × (ticks ≤ 65535) ⌝ }
-    ensures { λ _. ⌜ now (buffer .exit) ≡ written (now (buffer .entry)) 0 (answers card (drive (now (file .entry))) ticks) ⌝ }
+// Drives the runs of a file that was read, from a fresh state, and writes the answers of their ticks.
+fn answer_all(file: &[u8], card: Card, buffer: &mut [u8])
+    requires { ⌜ CardRanges card × (runsRefusal (now file) (runCount (now file)) ≡ 0) × (answerWidth * tickCount (now file) ≤ length (now buffer)) ⌝ }
+    ensures { λ _. ⌜ now (buffer .exit) ≡ written (now (buffer .entry)) 0 (answers card (drive (now (file .entry))) (tickCount (now (file .entry)))) ⌝ }
 {
+    let runs = run_count(file);
     let mut s = rules::fresh_state();
-    let mut p = Place {
-        begun: 0,
-        end: 0,
-        each: Record {
-            v: 0,
-            code: 0,
-            mode: 0,
-            lever: 0,
-            flags: 0,
-            band: 0,
-            sense: 0,
-        },
-    };
     let mut i = 0;
-    while i < ticks {
-        p = place_at(file, p, i);
-        let r = p.each;
-        let next = rules::advance(card, s, r);
-        let a = next.answer;
-        put_answer(buffer, ANSWER_WIDTH * i, a);
-        let state = next.state;
-        s = state;
-        i += 1;
+    let mut j = 0;
+    while j < runs {
+        let r = run_record(file, j);
+        let end = i + run_ticks(file, j);
+        while i < end {
+            let tick = rules::advance(card, s, r);
+            put_answer(buffer, ANSWER_WIDTH * i, tick);
+            let state = tick.state;
+            s = state;
+            i += 1;
+        }
+        j += 1;
     }
 }
 
@@ -308,6 +275,6 @@ pub fn run(file: &[u8], card: u32, buffer: &mut [u8]) -> Ran
         return ran;
     }
     let chosen = card::card_at(file, HEADER_WIDTH + CARD_WIDTH * ((card - 1) as usize));
-    answer_all(file, chosen, ran.ticks as usize, buffer);
+    answer_all(file, chosen, buffer);
     ran
 }

@@ -6,7 +6,6 @@ ghost use Rattle.reading.specs.Speed.{topSpeed};
 ghost use Rattle.record.specs.Modes.{pos, zav};
 ghost use Rattle.record.specs.Record.{RecordRanges};
 ghost use Rattle.signal.specs.Ranges.{SignalRanges, AspectRanges};
-ghost use Rattle.causes.specs.Held.{allHeld};
 ghost use Rattle.rules.specs.State.{fresh, noSignal, StateRanges, stateInRange};
 ghost use Rattle.rules.specs.Mode.{modeNow, entered};
 ghost use Rattle.rules.specs.Permitted.{ceiling, permitted};

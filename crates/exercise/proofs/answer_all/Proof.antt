@@ -1,5 +1,4 @@
-use Prim.Native.Nat.{ℕ, zero, suc, _+_, _*_, _≤_, _-_}
-use native.Mathlib.Nat.{zero-add}
+use Prim.Native.Nat.{ℕ, _+_, _*_, _≤_, _-_}
 use mathlib.Core.Path.{_≡_, refl, sym, ap, ap₂, _∙_}
 use mathlib.Core.List.{List}
 use native.Mathlib.Omega.{arith}
@@ -17,119 +16,161 @@ use Rattle.rules.specs.Tick.{advance}
 use Rattle.rules.specs.After.{after}
 use Rattle.rules.proofs.Ranges.{fresh-ranges}
 use Rattle.rules.proofs.After.{after-next}
+use Rattle.exercise.specs.File.{runCount}
 use Rattle.exercise.specs.Runs.{ticksTo}
-use Rattle.exercise.specs.Place.{PlaceGood}
 use Rattle.exercise.specs.Answers.{answerWidth, answerBytes, answers}
 use Rattle.exercise.specs.Calls.{drive}
-use Rattle.exercise.proofs.Runs.{place-next, place-good}
-use Rattle.exercise.proofs.Buffer.{answers-length, one-more}
+use Rattle.exercise.proofs.Runs.{RunDriven, run-driven}
+use Rattle.exercise.proofs.Buffer.{one-more}
 use Rattle.exercise.proofs.answer_all.Statement.{statement}
 use Rattle.exercise.proofs.answer_all.Tie as tie
 
+-- the ticks of one run: what was written before it stays written
+abbrev Inv-loop2 : tie.InvT-loop2
+Inv-loop2 file card buffer₀ runs s₀ i₀ j r end buffer s i =
+    RunDriven file j end r × (ticksTo file j ≤ i) × (i ≤ end) × (s ≡ after card (drive file) i .state) × StateRanges s
+    × (length buffer ≡ length buffer₀)
+    × ((l : List ℕ) → answerWidth * end ≤ length l → buffer₀ ≡ written l 0 (answers card (drive file) i₀)
+    → buffer ≡ written l 0 (answers card (drive file) i))
+
+abbrev μ-loop2 : tie.MeasureT-loop2
+μ-loop2 file card buffer₀ runs s₀ i₀ j r end buffer s i = end - i
+
+-- the runs
 abbrev Inv-loop : tie.InvT-loop
-Inv-loop file card ticks buffer₀ s₀ p₀ i₀ buffer s p i =
-    (i ≤ ticks) × (s ≡ after card (drive file) i .state) × StateRanges s × PlaceGood file i p
-    × (buffer ≡ written buffer₀ 0 (answers card (drive file) i))
+Inv-loop file card buffer₀ runs s₀ i₀ j₀ buffer s i j =
+    (j ≤ runs) × (i ≡ ticksTo file j) × (s ≡ after card (drive file) i .state) × StateRanges s
+    × (length buffer ≡ length buffer₀) × (buffer ≡ written buffer₀ 0 (answers card (drive file) i))
 
 abbrev μ-loop : tie.MeasureT-loop
-μ-loop file card ticks buffer₀ s₀ p₀ i₀ buffer s p i = ticks - i
-
--- the buffer keeps its length
-long : (card : Card) (H : ℕ → Record) (i : ℕ) (buffer now : List ℕ) → now ≡ written buffer 0 (answers card H i) → answerWidth * i ≤ length buffer → length now ≡ length buffer
-long card H i buffer now e fits = ap length e ∙ length-written buffer 0 (answers card H i) (omega (arith, answers-length card H i))
+μ-loop file card buffer₀ runs s₀ i₀ j₀ buffer s i j = runs - j
 
 -- one tick more
 again : (card : Card) (H : ℕ → Record) (i : ℕ) (s : State) (r : Record) (next : Advanced)
     → s ≡ after card H i .state → r ≡ H i → next ≡ advance card s r → next ≡ after card H (i + 1)
 again card H i s r next p q n = n ∙ ap₂ (advance card) p q ∙ sym (after-next card H i)
 
-fresh-state-requires : tie.Need-fresh-state-requires Inv-loop μ-loop
+run-count-requires : tie.Need-run-count-requires Inv-loop2 μ-loop2 Inv-loop μ-loop
+run-count-requires c κs = search needs
+
+fresh-state-requires : tie.Need-fresh-state-requires Inv-loop2 μ-loop2 Inv-loop μ-loop
 fresh-state-requires c κs = search needs
 
-loop-holds : tie.Need-loop-holds Inv-loop μ-loop
+loop-holds : tie.Need-loop-holds Inv-loop2 μ-loop2 Inv-loop μ-loop
 unfolding after answers ticksTo
-loop-holds c = (
-  omega arith,
-  c .fresh-state .ensures,
-  rw (c .fresh-state .ensures) fresh-ranges,
-  record { end-is = refl; within = omega arith; begun-most = omega arith; current = λ j e. absurd (omega arith) },
-  sym (written-nil _ 0),
-)
+loop-holds c =
+    (omega arith, refl, c .fresh-state .ensures, rw (c .fresh-state .ensures) fresh-ranges, refl, sym (written-nil _ 0))
 
-place-at-requires : tie.Need-place-at-requires Inv-loop μ-loop
-place-at-requires c κs =
-    let pre = c .before .before .before .before .before .pre in
-    (pre .1, pre .2, c .before .loop .inv .3, omega (arith, pre .3))
+run-record-requires : tie.Need-run-record-requires Inv-loop2 μ-loop2 Inv-loop μ-loop
+run-record-requires c κs = omega (arith, c .before .before .before .run-count .ensures .1)
 
-advance-requires : tie.Need-advance-requires Inv-loop μ-loop
+run-ticks-requires : tie.Need-run-ticks-requires Inv-loop2 μ-loop2 Inv-loop μ-loop
+run-ticks-requires c κs = omega (arith, c .before .before .before .before .run-count .ensures .1)
+
+add-end : tie.Need-add-end Inv-loop2 μ-loop2 Inv-loop μ-loop
+add-end c =
+    let l = c .before .before .before .loop in
+    let run = run-driven _ _ _ _ _ _ (c .before .before .before .before .before .before .before .before .pre .1) (c .before .before .before .before .before .run-count .ensures .0) (c .before .before .loop-test .taken) (l .inv .1) (c .run-ticks .ensures .0) (c .before .run-record .ensures) in
+    let most = run .most in
+    omega arith
+
+loop2-holds : tie.Need-loop2-holds Inv-loop2 μ-loop2 Inv-loop μ-loop
+loop2-holds c =
+    let l = c .before .before .before .loop in
+    let run = run-driven _ _ _ _ _ _ (c .before .before .before .before .before .before .before .before .pre .1) (c .before .before .before .before .before .run-count .ensures .0) (c .before .before .loop-test .taken) (l .inv .1) (c .run-ticks .ensures .0) (c .before .run-record .ensures) in
+    (run, omega (arith, l .inv .1), omega arith, l .inv .2, l .inv .3, refl, λ b fits e. e)
+
+advance-requires : tie.Need-advance-requires Inv-loop2 μ-loop2 Inv-loop μ-loop
 advance-requires c κs =
-    let pre = c .before .before .before .before .before .before .before .pre in
-    let place = c .before .place-at .ensures in
-    (pre .0, c .before .before .before .loop .inv .2, record-ranges _ (place-good _ _ _ (place .0) (pre .1) (place .1 .0)))
+    let l = c .before .loop2 in
+    (c .before .before .before .before .before .before .before .before .before .before .pre .0, l .inv .4, record-ranges _ (l .inv .0 .good))
 
-mul-put-answer : tie.Need-mul-put-answer Inv-loop μ-loop
-mul-put-answer c = omega (arith, c .before .before .before .before .before .loop-test .taken, c .before .before .before .before .before .before .before .before .before .before .pre .5)
+mul-put-answer : tie.Need-mul-put-answer Inv-loop2 μ-loop2 Inv-loop μ-loop
+mul-put-answer c = omega (arith, c .before .before .loop2-test .taken, c .before .before .before .loop2 .inv .0 .most)
 
-put-answer-requires : tie.Need-put-answer-requires Inv-loop μ-loop
+put-answer-requires : tie.Need-put-answer-requires Inv-loop2 μ-loop2 Inv-loop μ-loop
 put-answer-requires c κs =
-    let l = c .before .before .before .before .before .before .loop in
-    let pre = c .before .before .before .before .before .before .before .before .before .before .pre in
-    let more = c .before .before .before .before .before .loop-test .taken in
-    let fits = pre .4 in
-    omega (arith, long _ (drive _) _ _ _ (l .inv .4) (omega (arith, more, fits)), more, fits)
+    let l = c .before .before .before .loop2 in
+    omega (arith, c .before .before .loop2-test .taken, l .inv .0 .within, l .inv .5, c .before .before .before .before .before .before .before .loop .inv .4, c .before .before .before .before .before .before .before .before .before .before .before .before .pre .2)
 
-add-i : tie.Need-add-i Inv-loop μ-loop
-add-i c = omega (arith, c .before .before .before .before .before .before .before .before .before .loop-test .taken, c .before .before .before .before .before .before .before .before .before .before .before .before .before .before .pre .5)
+add-i : tie.Need-add-i Inv-loop2 μ-loop2 Inv-loop μ-loop
+add-i c = omega (arith, c .before .before .before .before .before .before .loop2-test .taken, c .before .before .before .before .before .before .before .loop2 .inv .0 .most)
 
-loop-less : tie.Need-loop-less Inv-loop μ-loop
-loop-less c = omega (arith, c .before .before .before .before .before .before .before .before .before .loop-test .taken)
+loop2-less : tie.Need-loop2-less Inv-loop2 μ-loop2 Inv-loop μ-loop
+loop2-less c = omega (arith, c .before .before .before .before .before .before .loop2-test .taken)
 
-loop-again : tie.Need-loop-again Inv-loop μ-loop
-loop-again c =
-    let l = c .before .before .before .before .before .before .before .before .before .before .loop in
-    let start = c .before .before .before .before .before .before .before .before .before .before .before .before .before .before in
+loop2-again : tie.Need-loop2-again Inv-loop2 μ-loop2 Inv-loop μ-loop
+loop2-again c =
+    let l = c .before .before .before .before .before .before .before .loop2 in
+    let start = c .before .before .before .before .before .before .before .before .before .before .before .before .before .before .before .before in
     let a = start .args in
-    let more = c .before .before .before .before .before .before .before .before .before .loop-test .taken in
-    let fits = start .pre .4 in
-    let place = c .before .before .before .before .before .before .before .before .place-at .ensures in
-    let tick = c .before .before .before .before .before .before .advance in
-    let next = again (a .card) (drive (a .file .now)) (l .i) _ _ (tick .result) (l .inv .1) (place .1 .1) (tick .ensures .0) in (
+    let more = c .before .before .before .before .before .before .loop2-test .taken in
+    let tick = c .before .before .before .before .before .advance in
+    let put = c .before .before .before .put-answer in
+    let next = again (a .card) (drive (a .file .now)) (l .i) _ _ (tick .result) (l .inv .3) (l .inv .0 .each (l .i) (l .inv .1) more) (tick .ensures .0) in (
+      l .inv .0,
+      omega (arith, l .inv .1),
       omega (arith, more),
       ap (λ (x : Advanced). x .state) next,
       tick .ensures .1,
-      place-next _ _ _ (place .0) (place .1 .0),
-      c .before .before .before .put-answer .ensures
-          ∙ ap₂ (λ (b : List ℕ) (x : Advanced). written b (answerWidth * l .i) (answerBytes (x .answer))) (l .inv .4) next
-          ∙ one-more (a .card) (drive (a .file .now)) _ (l .i) (omega (arith, more, fits)),
+      ap length (put .ensures) ∙ length-written _ _ _ (omega (arith, more, l .inv .0 .within, l .inv .5, c .before .before .before .before .before .before .before .before .before .before .before .loop .inv .4, start .pre .2)) ∙ l .inv .5,
+      λ b fits e.
+          put .ensures
+          ∙ ap₂ (λ (b : List ℕ) (x : Advanced). written b (answerWidth * l .i) (answerBytes (x .answer))) (l .inv .6 b fits e) next
+          ∙ one-more (a .card) (drive (a .file .now)) b (l .i) (omega (arith, more, fits)),
     )
 
-same-length : tie.Need-same-length Inv-loop μ-loop
-same-length c =
-    let l = c .before .loop in
-    let fits = c .before .before .before .before .before .pre .4 in
-    let e : l .i ≡ c .before .before .before .before .before .args .ticks = omega arith in
-    long _ (drive _) _ _ _ (l .inv .4) (omega (arith, fits))
+add-j : tie.Need-add-j Inv-loop2 μ-loop2 Inv-loop μ-loop
+add-j c = omega (arith, c .before .before .before .before .loop-test .taken, c .before .before .before .before .before .before .before .run-count .ensures .1)
 
-returns : tie.Need-returns Inv-loop μ-loop
+loop-less : tie.Need-loop-less Inv-loop2 μ-loop2 Inv-loop μ-loop
+loop-less c = omega (arith, c .before .before .before .before .loop-test .taken)
+
+loop-again : tie.Need-loop-again Inv-loop2 μ-loop2 Inv-loop μ-loop
+loop-again c =
+    let inner = c .before .loop2 in
+    let outer = c .before .before .before .before .before .loop in
+    let run = inner .inv .0 in (
+      omega (arith, c .before .before .before .before .loop-test .taken),
+      omega (arith, c .loop2-test .left, inner .inv .2, run .ends),
+      inner .inv .3,
+      inner .inv .4,
+      inner .inv .5 ∙ outer .inv .4,
+      inner .inv .6 _ (omega (arith, run .within, c .before .before .before .before .before .before .before .before .before .before .pre .2)) (outer .inv .5),
+    )
+
+same-length : tie.Need-same-length Inv-loop2 μ-loop2 Inv-loop μ-loop
+same-length c = c .before .loop .inv .4
+
+returns : tie.Need-returns Inv-loop2 μ-loop2 Inv-loop μ-loop
 returns c =
     let l = c .before .loop in
-    let a = c .before .before .before .before .before .args in
-    let e : l .i ≡ a .ticks = omega arith in
-    l .inv .4 ∙ ap (λ (m : ℕ). written (a .buffer .now) 0 (answers (a .card) (drive (a .file .now)) m)) e
+    let a = c .before .before .before .before .before .before .args in
+    let e : l .j ≡ runCount (a .file .now) = omega (arith, c .loop-test .left, l .inv .0, c .before .before .before .run-count .ensures .0) in
+    l .inv .5 ∙ ap (λ (m : ℕ). written (a .buffer .now) 0 (answers (a .card) (drive (a .file .now)) m)) (l .inv .1 ∙ ap (ticksTo (a .file .now)) e)
 
 pub answer-all-spec : {M : Type 1} → statement M
 answer-all-spec =
     tie.close
     (tie.spec
+    Inv-loop2
+    μ-loop2
     Inv-loop
     μ-loop
+    run-count-requires
     fresh-state-requires
     loop-holds
-    place-at-requires
+    run-record-requires
+    run-ticks-requires
+    add-end
+    loop2-holds
     advance-requires
     mul-put-answer
     put-answer-requires
     add-i
+    loop2-less
+    loop2-again
+    add-j
     loop-less
     loop-again
     same-length

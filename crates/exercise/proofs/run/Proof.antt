@@ -1,15 +1,12 @@
-use Prim.Native.Nat.{ℕ, _*_}
-use mathlib.Core.Path.{_≡_, sym, ap, ap₂, _∙_, subst}
-use native.Mathlib.Omega.{arith}
+use mathlib.Core.Path.{sym, ap, _∙_}
 use borrow.Author.Needs.{needs}
 use Rattle.layout.specs.Layout.{written}
 use Rattle.card.specs.declared.Card.{Card}
-use Rattle.card.specs.Card.{CardRanges}
 use Rattle.exercise.specs.declared.Ran.{Ran}
 use Rattle.exercise.specs.File.{cardIn}
 use Rattle.exercise.specs.Answers.{answers}
-use Rattle.exercise.specs.Calls.{drive}
-use Rattle.exercise.proofs.Calls.{run-number, run-ticks, run-taken, buffer-yes, buffer-no}
+use Rattle.exercise.specs.Calls.{tickCount, drive}
+use Rattle.exercise.proofs.Calls.{run-number, run-taken, buffer-yes, buffer-no}
 use Rattle.exercise.proofs.run.Statement.{statement}
 use Rattle.exercise.proofs.run.Tie as tie
 
@@ -36,18 +33,13 @@ add-card-at c = search needs
 card-at-requires : tie.Need-card-at-requires
 card-at-requires c κs = search needs
 
-cast-answer-all : tie.Need-cast-answer-all
-cast-answer-all c = search needs
-
 answer-all-requires : tie.Need-answer-all-requires
 unfolding cardIn
 answer-all-requires c κs =
-    let ran = c .before .before .before .before .before .run-outcome .ensures in
-    let e = sym (ap (λ (x : Ran). x .refusal) (c .before .before .before .before .before .run-outcome .ensures) ∙ run-number _ _ _) ∙ c .before .before .before .if1 .left in
+    let ran = c .before .before .before .before .run-outcome .ensures in
+    let e = sym (ap (λ (x : Ran). x .refusal) ran ∙ run-number _ _ _) ∙ c .before .before .if1 .left in
     let t = run-taken _ _ _ e in
-    let ticks = ap (λ (x : Ran). x .ticks) ran ∙ run-ticks _ _ _ e in
-    let fits = t .fits in
-    (rw (c .before .before .card-at .ensures) (t .card-good), t .runs-good, t .runs-most, ticks, omega arith, search needs)
+    (rw (c .before .card-at .ensures) (t .card-good), t .runs-good, t .fits)
 
 same-length : tie.Need-same-length
 same-length c = search needs
@@ -55,13 +47,12 @@ same-length c = search needs
 returns-2 : tie.Need-returns-2
 unfolding cardIn
 returns-2 c =
-    let ran = c .before .before .before .before .before .before .before .before .run-outcome .ensures in
-    let a = c .before .before .before .before .before .before .before .before .before .before .before .args in
-    let e = sym (ap (λ (x : Ran). x .refusal) (c .before .before .before .before .before .before .before .before .run-outcome .ensures) ∙ run-number _ _ _) ∙ c .before .before .before .before .before .before .if1 .left in
-    let ticks = ap (λ (x : Ran). x .ticks) ran ∙ run-ticks _ _ _ e in (
+    let ran = c .before .before .before .before .before .before .before .run-outcome .ensures in
+    let a = c .before .before .before .before .before .before .before .before .before .before .args in
+    let e = sym (ap (λ (x : Ran). x .refusal) ran ∙ run-number _ _ _) ∙ c .before .before .before .before .before .if1 .left in (
       ran,
       c .before .before .answer-all .ensures
-          ∙ ap₂ (λ (k : Card) (m : ℕ). written (a .buffer .now) 0 (answers k (drive (a .file .now)) m)) (c .before .before .before .before .before .card-at .ensures) ticks
+          ∙ ap (λ (k : Card). written (a .buffer .now) 0 (answers k (drive (a .file .now)) (tickCount (a .file .now)))) (c .before .before .before .before .card-at .ensures)
           ∙ sym (buffer-yes _ _ _ e),
     )
 
@@ -76,7 +67,6 @@ run-spec =
     mul-card-at
     add-card-at
     card-at-requires
-    cast-answer-all
     answer-all-requires
     same-length
     returns-2)
