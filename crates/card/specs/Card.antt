@@ -1,10 +1,10 @@
--- The card: its ranges, as facts and as the test that the code makes, and its 20 bytes.
+-- The card: its ranges, as facts and as the test that the code makes; its tolerance; its 20 bytes.
 use Prim.Native.Nat.{ℕ, _+_, _≤_}
 use mathlib.Core.Path.{_≡_}
 use mathlib.Core.Bool.{Bool, _&&_, _||_}
 use mathlib.Core.Logic.{_⊎_}
 use mathlib.Core.List.{List}
-use lib.Dec.{leb, eqb}
+use lib.Dec.{leb, ltb, eqb}
 use Rattle.reading.specs.Speed.{topSpeed}
 use Rattle.layout.specs.Layout.{u16At}
 use Rattle.card.specs.declared.Card.{Card}
@@ -66,6 +66,25 @@ cardInRange c =
     && leb leastDeceleration (c .deceleration) && leb (c .deceleration) mostDeceleration
     && leb leastCycle (c .cycle) && leb (c .cycle) mostCycle
     && (eqb (c .wait) shortWait || eqb (c .wait) longWait)
+
+-- v exceeds a speed by more than the card's tolerance
+abbrev pub beyond : Card → ℕ → ℕ → Bool
+beyond c speed v = ltb (speed + c .tolerance) v
+
+-- a card of zeros, which is out of range
+abbrev pub noCard : Card
+noCard = record {
+  design = 0;
+  set = 0;
+  highest = 0;
+  pos = 0;
+  zav = 0;
+  tolerance = 0;
+  stop = 0;
+  deceleration = 0;
+  cycle = 0;
+  wait = 0;
+}
 
 -- how many bytes a card takes
 abbrev pub cardWidth : ℕ

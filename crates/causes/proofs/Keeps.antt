@@ -12,7 +12,7 @@ use Rattle.record.specs.declared.Keys.{Keys}
 use Rattle.causes.specs.declared.Causes.{Causes}
 use Rattle.causes.specs.Held.{allHeld, maskOf}
 use Rattle.causes.specs.Direction.{farthest, wrongwayNow}
-use Rattle.causes.specs.Standing.{standingNow}
+use Rattle.causes.specs.Standing.{counted, standingNow}
 use Rattle.causes.specs.Keeping.{wrongwayLeft}
 
 pub wrongway-now-most : (mode : ℕ) (r : Record) (k : Keys) (d : ℕ) → d ≤ farthest → wrongwayNow mode r k d ≤ farthest
@@ -25,7 +25,7 @@ wrongway-left-most d held triggered free p = simp most-iff (omega arith)
 
 pub standing-now-most : (card : Card) (mode : ℕ) (r : Record) (k : Keys) (held : Bool) (h : ℕ) → CardRanges card → h ≤ longWait
     → standingNow card mode r k held h ≤ longWait
-unfolding standingNow
+unfolding counted standingNow
 standing-now-most card mode r k held h good p = simp most-iff (omega (arith, wait-between card good))
 
 pub mask-of-most : (c : Causes) → maskOf c ≤ allHeld

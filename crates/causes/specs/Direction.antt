@@ -28,5 +28,5 @@ module _ (mode : ℕ) (r : Record) (keys : Keys) (d : ℕ) where
   unfoldable pub wrongwayTriggers : Bool
   wrongwayTriggers = watchesMotion && eqb wrongwayNow farthest
 
-  abbrev pub moved : Moved
-  moved = record { wrongway = wrongwayNow; triggers = wrongwayTriggers }
+  abbrev pub driven : Moved
+  driven = record { wrongway = wrongwayNow; triggers = wrongwayTriggers }

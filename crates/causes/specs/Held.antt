@@ -32,14 +32,14 @@ heldIn mask = record { nz1 = bitOn mask nz1; nz2 = bitOn mask nz2; nz3 = bitOn m
 unfoldable pub maskOf : Causes → ℕ
 maskOf c = cond (c .nz1) nz1 0 + cond (c .nz2) nz2 0 + cond (c .nz3) nz3 0 + cond (c .nz4) nz4 0 + cond (c .nz5) nz5 0
 
-abbrev pub also : Bool → ℕ → List ℕ → List ℕ
+unfoldable pub also : Bool → ℕ → List ℕ → List ℕ
 also held number rest = cond held (number ∷ rest) rest
 
 -- the numbers of the causes that hold
 unfoldable pub listed : Causes → List ℕ
 listed c = also (c .nz1) 1 (also (c .nz2) 2 (also (c .nz3) 3 (also (c .nz4) 4 (also (c .nz5) 5 []))))
 
-abbrev pub firstOr : ℕ → List ℕ → ℕ
+unfoldable pub firstOr : ℕ → List ℕ → ℕ
 firstOr none [] = none
 firstOr none (number ∷ rest) = number
 

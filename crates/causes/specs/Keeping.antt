@@ -1,16 +1,11 @@
--- Steps 9 and 10: what triggers each cause, what lets it go, and which are held then.
-use Prim.Native.Nat.{ℕ, _+_}
+-- Step 9, NZ4, and step 10: what lets a cause go, and which are held then.
+use Prim.Native.Nat.{ℕ}
 use mathlib.Core.Bool.{Bool, not, _&&_, _||_, cond}
-use lib.Dec.{ltb, leb, eqb}
-use Rattle.card.specs.declared.Card.{Card}
+use lib.Dec.{leb, eqb}
 use Rattle.record.specs.declared.Record.{Record}
 use Rattle.record.specs.declared.Keys.{Keys}
 use Rattle.record.specs.Modes.{preOrVyl}
 use Rattle.causes.specs.declared.Causes.{Causes}
-
--- step 9, NZ2, in all modes: v > P + tolerance
-abbrev pub overspeeds : Card → ℕ → ℕ → Bool
-overspeeds card p v = ltb (p + card .tolerance) v
 
 -- step 9, NZ4, in PRE and VYL: remote stop on
 abbrev pub remoteStops : ℕ → Keys → Bool
@@ -31,6 +26,9 @@ released p r keys =
 abbrev pub keeps : Bool → Bool → Bool → Bool
 keeps held triggered free = triggered || (held && not free)
 
+abbrev pub letsGo : Bool → Bool → Bool → Bool
+letsGo held triggered free = held && not triggered && free
+
 unfoldable pub kept : Causes → Causes → Causes → Causes
 kept held triggered free =
     record {
@@ -43,4 +41,4 @@ kept held triggered free =
 
 -- letting NZ3 go sets d = 0
 unfoldable pub wrongwayLeft : ℕ → Causes → Causes → Causes → ℕ
-wrongwayLeft d held triggered free = cond (held .nz3 && not (triggered .nz3) && free .nz3) 0 d
+wrongwayLeft d held triggered free = cond (letsGo (held .nz3) (triggered .nz3) (free .nz3)) 0 d

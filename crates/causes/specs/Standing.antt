@@ -15,12 +15,15 @@ unbraked r keys = eqb (r .v) 0 && not (keys .brake) && eqb (r .band) 2
 -- held: NZ5 was held before this tick
 module _ (card : Card) (mode : ℕ) (r : Record) (keys : Keys) (held : Bool) (h : ℕ) where
   -- with v = 0, direct brake off and band 2, h = min(wait, h + 1), else h = 0
-  abbrev pub counted : ℕ
+  unfoldable pub counted : ℕ
   counted = cond (unbraked r keys) (min (card .wait) (h + 1)) 0
+
+  abbrev pub pressedWhileHeld : Bool
+  pressedWhileHeld = keys .vigilance && held
 
   -- a vigilance press while NZ5 is held sets h = 0; other modes keep h
   unfoldable pub standingNow : ℕ
-  standingNow = cond (preOrVyl mode) (cond (keys .vigilance && held) 0 counted) h
+  standingNow = cond (preOrVyl mode) (cond pressedWhileHeld 0 counted) h
 
   -- h = wait triggers
   unfoldable pub standingTriggers : Bool
@@ -30,5 +33,5 @@ module _ (card : Card) (mode : ℕ) (r : Record) (keys : Keys) (held : Bool) (h 
   unfoldable pub standingSounds : Bool
   standingSounds = preOrVyl mode && leb (card .wait - 100) standingNow
 
-  abbrev pub stood : Stood
-  stood = record { standing = standingNow; triggers = standingTriggers; sounds = standingSounds }
+  abbrev pub parked : Stood
+  parked = record { standing = standingNow; triggers = standingTriggers; sounds = standingSounds }

@@ -4,8 +4,8 @@ ghost use Prim.Native.Nat.{_≤_, _<_};
 ghost use Rattle.card.specs.Card.{longWait, CardRanges};
 ghost use Rattle.record.specs.Record.{RecordRanges};
 ghost use Rattle.causes.specs.Held.{allHeld, heldIn, maskOf, lowest, howMany};
-ghost use Rattle.causes.specs.Direction.{farthest, agrees, moved};
-ghost use Rattle.causes.specs.Standing.{stood};
+ghost use Rattle.causes.specs.Direction.{farthest, agrees, driven};
+ghost use Rattle.causes.specs.Standing.{parked};
 ghost use Rattle.causes.specs.Keeping.{released, kept, wrongwayLeft};
 use card::Card;
 use record::Keys;
@@ -51,6 +51,13 @@ fn held_in(mask: u8) -> Causes
     }
 }
 
+// Whether NZ5 is held.
+pub fn holds_nz5(mask: u8) -> bool
+    ensures { λ x. ⌜ x ≡ heldIn mask .nz5 ⌝ }
+{
+    held_in(mask).nz5
+}
+
 fn mask_of(c: Causes) -> u8
     ensures { λ m. ⌜ (m ≡ maskOf c) × (m ≤ allHeld) ⌝ }
 {
@@ -88,7 +95,7 @@ fn agrees(r: Record, k: Keys) -> bool
 // Step 9, NZ3.
 pub fn driven(mode: u8, r: Record, k: Keys, d: u16) -> Moved
     requires { ⌜ RecordRanges r × (d ≤ farthest) ⌝ }
-    ensures { λ x. ⌜ (x ≡ moved mode r k d) × (x .wrongway ≤ farthest) ⌝ }
+    ensures { λ x. ⌜ (x ≡ driven mode r k d) × (x .wrongway ≤ farthest) ⌝ }
 {
     if ((mode == record::PRE) | (mode == record::VYL)) & (0 < r.v) {
         if agrees(r, k) {
@@ -112,7 +119,7 @@ pub fn driven(mode: u8, r: Record, k: Keys, d: u16) -> Moved
 // Step 9, NZ5.
 pub fn parked(card: Card, mode: u8, r: Record, k: Keys, held: bool, h: u16) -> Stood
     requires { ⌜ CardRanges card × (h ≤ longWait) ⌝ }
-    ensures { λ x. ⌜ (x ≡ stood card mode r k held h) × (x .standing ≤ longWait) ⌝ }
+    ensures { λ x. ⌜ (x ≡ parked card mode r k held h) × (x .standing ≤ longWait) ⌝ }
 {
     if (mode == record::PRE) | (mode == record::VYL) {
         if k.vigilance & held {

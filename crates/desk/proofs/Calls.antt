@@ -2,23 +2,26 @@
 -- A chain of refusals that comes to 0 passed every test.
 use Prim.Native.Nat.{ℕ, _+_, _-_, _*_, _≤_, _<_}
 use native.Mathlib.Omega.{arith}
-use mathlib.Core.Path.{_≡_, refl}
+use mathlib.Core.Path.{_≡_, refl, sym}
 use mathlib.Core.Bool.{Bool, true, false, not, cond, false≢true}
 use mathlib.Core.List.{List}
 use lib.Dec.{ltb, leb, eqb}
 use lib.ListN.{length}
 use borrow.Author.Tests.{eq-eqb, ne-eqb, le-ltb, lt-ltb, lt-leb, ltb-false, leb-false, not-false}
 use Rattle.numbers.proofs.Tests.{and-iff, leb-iff}
+use Rattle.refusal.specs.Refusal.{badDesk, shortJournal, fullJournal, backTooFar, badRecord}
 use Rattle.card.proofs.Ranges.{card-ranges, ranges-card}
 use Rattle.record.specs.declared.Sample.{Sample}
 use Rattle.record.specs.Record.{recordWidth, putRecord}
 use Rattle.record.specs.Sample.{sampleRefusal, sampleRecord}
+use Rattle.record.proofs.Bytes.{put-fits}
 use Rattle.rules.specs.Tick.{advance}
 use Rattle.rules.specs.After.{after}
 use Rattle.rules.proofs.Ranges.{state-ranges, ranges-state}
 use Rattle.desk.specs.declared.Desk.{Desk}
 use Rattle.desk.specs.Journal.{mostTicks, capacity, records, allInRange}
 use Rattle.desk.specs.Desk.{DeskRanges, deskInRange}
+use Rattle.desk.proofs.Journal.{room}
 use Rattle.desk.specs.Calls.{refused, accepted, tickRefusal, tickNumber, tickOutcome, tickJournal, backRefusal, backOutcome, restartOutcome}
 
 -- ---- ranges
@@ -47,9 +50,9 @@ module _ (d : Desk) (sample length : ℕ) where
   pub tick-taken : tickRefusal d sample length ≡ 0 → TickTaken d sample length
   unfolding tickRefusal
   tick-taken e =
-      let five = passed (not (deskInRange d)) 5 _ (omega arith) e in
-      let six = passed (ltb length (recordWidth * d .n)) 6 _ (omega arith) (five .1) in
-      let seven = passed (leb (capacity length) (d .n)) 7 sample (omega arith) (six .1) in
+      let five = passed (not (deskInRange d)) badDesk _ (omega arith) e in
+      let six = passed (ltb length (recordWidth * d .n)) shortJournal _ (omega arith) (five .1) in
+      let seven = passed (leb (capacity length) (d .n)) fullJournal sample (omega arith) (six .1) in
       record {
         desk-good = not-false _ (five .0);
         long = ltb-false _ _ (six .0);
@@ -71,10 +74,10 @@ module _ (d : Desk) (k : ℕ) (J : List ℕ) where
   pub back-taken : backRefusal d k J ≡ 0 → BackTaken d k J
   unfolding backRefusal
   back-taken e =
-      let five = passed (not (deskInRange d)) 5 _ (omega arith) e in
-      let six = passed (ltb (length J) (recordWidth * d .n)) 6 _ (omega arith) (five .1) in
-      let eight = passed (ltb (d .n) k) 8 _ (omega arith) (six .1) in
-      let nine = passed (not (allInRange J (d .n - k))) 9 0 (omega arith) (eight .1) in
+      let five = passed (not (deskInRange d)) badDesk _ (omega arith) e in
+      let six = passed (ltb (length J) (recordWidth * d .n)) shortJournal _ (omega arith) (five .1) in
+      let eight = passed (ltb (d .n) k) backTooFar _ (omega arith) (six .1) in
+      let nine = passed (not (allInRange J (d .n - k))) badRecord 0 (omega arith) (eight .1) in
       record {
         desk-good = not-false _ (five .0);
         long = ltb-false _ _ (six .0);
@@ -87,7 +90,7 @@ module _ (d : Desk) (k : ℕ) (J : List ℕ) where
   taken-back t = rw (t .desk-good, le-ltb _ _ (t .long), le-ltb _ _ (t .few), t .good)
 
   -- more than there are ticks
-  pub back-many : deskInRange d ≡ true → recordWidth * d .n ≤ length J → d .n < k → backRefusal d k J ≡ 8
+  pub back-many : deskInRange d ≡ true → recordWidth * d .n ≤ length J → d .n < k → backRefusal d k J ≡ backTooFar
   unfolding backRefusal
   back-many g l h = rw (g, le-ltb _ _ l, lt-ltb _ _ h)
 
@@ -97,7 +100,9 @@ module _ (d : Desk) (x : Sample) (J : List ℕ) where
       (tickOutcome d x J ≡ accepted (d .card) (d .n + 1) (advance (d .card) (d .state) (sampleRecord x)))
       × (tickJournal d x J ≡ putRecord J (recordWidth * d .n) (sampleRecord x))
   unfolding tickOutcome tickJournal
-  tick-yes e = (rw (eq-eqb _ _ e), rw (eq-eqb _ _ e))
+  tick-yes e =
+      let fits = room _ _ (tick-taken _ _ _ e .below) .1 in
+      (rw (eq-eqb _ _ e), rw (eq-eqb _ _ e) (sym (put-fits J (recordWidth * d .n) (sampleRecord x) fits)))
 
   pub tick-no : (tickNumber d x J ≡ 0 → ⊥) → (tickOutcome d x J ≡ refused d (tickNumber d x J)) × (tickJournal d x J ≡ J)
   unfolding tickOutcome tickJournal

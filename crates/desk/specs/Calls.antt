@@ -4,14 +4,16 @@ use mathlib.Core.List.{List}
 use mathlib.Core.Bool.{not, cond}
 use lib.Dec.{leb, ltb, eqb}
 use lib.ListN.{length}
+use Rattle.layout.specs.Layout.{written}
+use Rattle.refusal.specs.Refusal.{badCard, badDesk, shortJournal, fullJournal, backTooFar, badRecord}
 use Rattle.card.specs.declared.Card.{Card}
 use Rattle.card.specs.Card.{cardInRange}
 use Rattle.record.specs.declared.Sample.{Sample}
-use Rattle.record.specs.Record.{recordWidth, putRecord}
+use Rattle.record.specs.Record.{recordWidth, recordBytes}
 use Rattle.record.specs.Sample.{sampleRefusal, sampleRecord}
 use Rattle.rules.specs.declared.Advanced.{Advanced}
-use Rattle.rules.specs.Tick.{advance}
-use Rattle.rules.specs.After.{noAnswer, after}
+use Rattle.rules.specs.Tick.{noAnswer, advance}
+use Rattle.rules.specs.After.{after}
 use Rattle.desk.specs.declared.Desk.{Desk}
 use Rattle.desk.specs.declared.Outcome.{Outcome}
 use Rattle.desk.specs.Journal.{capacity, records, allInRange}
@@ -31,14 +33,14 @@ accepted card n a = record { desk = record { card = card; n = n; state = a .stat
 
 -- opening: 4
 unfoldable pub openOutcome : Card → Outcome
-openOutcome card = cond (not (cardInRange card)) (refused noDesk 4) (begun card)
+openOutcome card = cond (not (cardInRange card)) (refused noDesk badCard) (begun card)
 
 -- tick: 5, 6, 7, then 1, 2, 3 of the sample; `bytes` is the journal's length
 unfoldable pub tickRefusal : Desk → ℕ → ℕ → ℕ
 tickRefusal d ofSample bytes =
-    cond (not (deskInRange d)) 5
-    (cond (ltb bytes (recordWidth * d .n)) 6
-    (cond (leb (capacity bytes) (d .n)) 7 ofSample))
+    cond (not (deskInRange d)) badDesk
+    (cond (ltb bytes (recordWidth * d .n)) shortJournal
+    (cond (leb (capacity bytes) (d .n)) fullJournal ofSample))
 
 module _ (d : Desk) (x : Sample) (journal : List ℕ) where
   abbrev pub tickNumber : ℕ
@@ -51,16 +53,16 @@ module _ (d : Desk) (x : Sample) (journal : List ℕ) where
 
   -- the record is written to bytes 8n to 8n + 7, no other byte changes
   unfoldable pub tickJournal : List ℕ
-  tickJournal = cond (eqb tickNumber 0) (putRecord journal (recordWidth * d .n) (sampleRecord x)) journal
+  tickJournal = cond (eqb tickNumber 0) (written journal (recordWidth * d .n) (recordBytes (sampleRecord x))) journal
 
 -- step back: 5, 6, 8, 9
 module _ (d : Desk) (k : ℕ) (journal : List ℕ) where
   unfoldable pub backRefusal : ℕ
   backRefusal =
-      cond (not (deskInRange d)) 5
-      (cond (ltb (length journal) (recordWidth * d .n)) 6
-      (cond (ltb (d .n) k) 8
-      (cond (not (allInRange journal (d .n - k))) 9 0)))
+      cond (not (deskInRange d)) badDesk
+      (cond (ltb (length journal) (recordWidth * d .n)) shortJournal
+      (cond (ltb (d .n) k) backTooFar
+      (cond (not (allInRange journal (d .n - k))) badRecord 0)))
 
   -- rebuilt from the first n − k records
   unfoldable pub backOutcome : Outcome
@@ -70,4 +72,4 @@ module _ (d : Desk) (k : ℕ) (journal : List ℕ) where
 
 -- restart: 5
 unfoldable pub restartOutcome : Desk → Outcome
-restartOutcome d = cond (not (deskInRange d)) (refused d 5) (begun (d .card))
+restartOutcome d = cond (not (deskInRange d)) (refused d badDesk) (begun (d .card))

@@ -3,8 +3,8 @@ use Prim.Native.Nat.{_≤_}
 use mathlib.Core.Bool.{Bool, _&&_}
 use lib.Dec.{leb}
 use Rattle.card.specs.declared.Card.{Card}
-use Rattle.card.specs.Card.{CardRanges, cardInRange}
-use Rattle.rules.specs.State.{only, fresh, StateRanges, stateInRange}
+use Rattle.card.specs.Card.{CardRanges, cardInRange, noCard}
+use Rattle.rules.specs.State.{only, freshState, StateRanges, stateInRange}
 use Rattle.desk.specs.declared.Desk.{Desk}
 use Rattle.desk.specs.Journal.{mostTicks}
 
@@ -17,22 +17,8 @@ unfoldable pub deskInRange : Desk → Bool
 deskInRange d = cardInRange (d .card) && leb (d .n) mostTicks && stateInRange (d .state)
 
 abbrev pub freshDesk : Card → Desk
-freshDesk card = record { card = card; n = 0; state = fresh }
+freshDesk card = record { card = card; n = 0; state = freshState }
 
 -- a desk of zeros, card and mode included
-abbrev pub noCard : Card
-noCard = record {
-  design = 0;
-  set = 0;
-  highest = 0;
-  pos = 0;
-  zav = 0;
-  tolerance = 0;
-  stop = 0;
-  deceleration = 0;
-  cycle = 0;
-  wait = 0;
-}
-
 abbrev pub noDesk : Desk
 noDesk = record { card = noCard; n = 0; state = only 0 }

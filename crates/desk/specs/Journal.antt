@@ -9,9 +9,9 @@ use Rattle.record.specs.Record.{recordWidth, recordAt, recordInRange}
 abbrev pub mostTicks : ℕ
 mostTicks = 7200
 
--- the lesser of 7,200 and journal length / 8, whole
+-- the lesser of 7,200 and journal length / 8, whole: the length in bytes
 unfoldable pub capacity : ℕ → ℕ
-capacity length = min mostTicks (length / recordWidth)
+capacity bytes = min mostTicks (bytes / recordWidth)
 
 unfoldable pub records : List ℕ → ℕ → Record
 records journal i = recordAt journal (recordWidth * i)

@@ -5,7 +5,8 @@ ghost use Prim.Native.Nat.{_*_, _≤_};
 ghost use lib.ListN.{length};
 ghost use Rattle.card.specs.Card.{CardRanges};
 ghost use Rattle.record.specs.Record.{recordWidth};
-ghost use Rattle.rules.specs.After.{noAnswer, after};
+ghost use Rattle.rules.specs.Tick.{noAnswer};
+ghost use Rattle.rules.specs.After.{after};
 ghost use Rattle.desk.specs.Journal.{capacity, records, allInRange};
 ghost use Rattle.desk.specs.Desk.{deskInRange, freshDesk, noDesk};
 ghost use Rattle.desk.specs.Calls.{refused, begun, accepted, openOutcome, tickRefusal, tickOutcome, tickJournal, backRefusal, backOutcome, restartOutcome};
@@ -142,14 +143,14 @@ fn tick_refusal(d: Desk, sample: u8, length: usize) -> u8
     ensures { λ x. ⌜ x ≡ tickRefusal d sample length ⌝ }
 {
     if !desk_in_range(d) {
-        return 5;
+        return refusal::BAD_DESK;
     }
     let n = d.n as usize;
     if length < RECORD_WIDTH * n {
-        return 6;
+        return refusal::SHORT_JOURNAL;
     }
     if capacity(length) <= n {
-        return 7;
+        return refusal::FULL_JOURNAL;
     }
     sample
 }
@@ -173,17 +174,17 @@ fn back_refusal(d: Desk, k: u32, journal: &[u8]) -> u8
     ensures { λ x. ⌜ x ≡ backRefusal d k (now (journal .entry)) ⌝ }
 {
     if !desk_in_range(d) {
-        return 5;
+        return refusal::BAD_DESK;
     }
     let n = d.n as u32;
     if journal.len() < RECORD_WIDTH * (n as usize) {
-        return 6;
+        return refusal::SHORT_JOURNAL;
     }
     if n < k {
-        return 8;
+        return refusal::BACK_TOO_FAR;
     }
     if !all_in_range(journal, (n - k) as usize) {
-        return 9;
+        return refusal::BAD_RECORD;
     }
     0
 }
@@ -215,7 +216,7 @@ impl Desk {
         ensures { λ x. ⌜ x ≡ openOutcome card ⌝ }
     {
         if !card::card_in_range(card) {
-            return refused(no_desk(), 4);
+            return refused(no_desk(), refusal::BAD_CARD);
         }
         begun(card)
     }
@@ -253,7 +254,7 @@ impl Desk {
         ensures { λ x. ⌜ x ≡ restartOutcome self ⌝ }
     {
         if !desk_in_range(self) {
-            return refused(self, 5);
+            return refused(self, refusal::BAD_DESK);
         }
         let card = self.card;
         begun(card)

@@ -13,8 +13,8 @@ use Rattle.numbers.proofs.All.{all-each}
 use Rattle.layout.specs.Layout.{written}
 use Rattle.card.specs.Card.{CardRanges, cardInRange}
 use Rattle.card.proofs.Ranges.{card-ranges}
-use Rattle.record.specs.Sample.{firstRefusal}
-use Rattle.record.proofs.Refusal.{both-zero, first-zero, first-some}
+use Rattle.refusal.specs.Refusal.{badCard, badFile, shortBuffer, noSuchCard, firstRefusal}
+use Rattle.refusal.proofs.First.{both-zero, first-zero, first-some}
 use Rattle.exercise.specs.File.{headerGood, cardCount, runCount, cardIn, cardsInRange}
 use Rattle.exercise.specs.Runs.{ticksTo, runsRefusal}
 use Rattle.exercise.specs.declared.Ran.{Ran}
@@ -80,7 +80,7 @@ module _ (file : List ℕ) where
 
   cards-good : cardsRefusal file ≡ 0 → cardsInRange file (cardCount file) ≡ true
   unfolding cardsRefusal
-  cards-good h = zero-if (cardsInRange file (cardCount file)) 4 0 (omega arith) (zero-if (headerGood file) 10 _ (omega arith) h .1) .0
+  cards-good h = zero-if (cardsInRange file (cardCount file)) badCard 0 (omega arith) (zero-if (headerGood file) badFile _ (omega arith) h .1) .0
 
 -- ---- a run
 module _ (file : List ℕ) (card room : ℕ) where
@@ -94,14 +94,14 @@ module _ (file : List ℕ) (card room : ℕ) where
   run-by-cards h = run-refused _ h (first-some _ _ h)
 
   module _ (h : cardsRefusal file ≡ 0) where
-    no-card : (leb 1 card && leb card (cardCount file)) ≡ false → runOutcome file card room ≡ record { refusal = 13; ticks = 0 }
+    no-card : (leb 1 card && leb card (cardCount file)) ≡ false → runOutcome file card room ≡ record { refusal = noSuchCard; ticks = 0 }
     unfolding runRefusal
-    no-card e = run-refused 13 (λ z. omega arith) (rw (h, first-zero, e) (first-some 13 _ (λ z. omega arith)))
+    no-card e = run-refused noSuchCard (λ z. omega arith) (rw (h, first-zero, e) (first-some noSuchCard _ (λ z. omega arith)))
 
-    pub run-by-low : card < 1 → runOutcome file card room ≡ record { refusal = 13; ticks = 0 }
+    pub run-by-low : card < 1 → runOutcome file card room ≡ record { refusal = noSuchCard; ticks = 0 }
     run-by-low l = no-card (rw (lt-leb 1 card l))
 
-    pub run-by-high : cardCount file < card → runOutcome file card room ≡ record { refusal = 13; ticks = 0 }
+    pub run-by-high : cardCount file < card → runOutcome file card room ≡ record { refusal = noSuchCard; ticks = 0 }
     run-by-high l = no-card (rw (lt-leb card (cardCount file) l) (and-false (leb 1 card)))
 
     module _ (low : 1 ≤ card) (high : card ≤ cardCount file) where
@@ -110,10 +110,10 @@ module _ (file : List ℕ) (card room : ℕ) where
       run-by-runs k = run-refused _ k (rw (h, first-zero, le-leb _ _ low, le-leb _ _ high, first-zero) (first-some _ _ k))
 
       module _ (k : runs file ≡ 0) where
-        pub run-by-room : room < answerWidth * tickCount file → runOutcome file card room ≡ record { refusal = 12; ticks = 0 }
+        pub run-by-room : room < answerWidth * tickCount file → runOutcome file card room ≡ record { refusal = shortBuffer; ticks = 0 }
         unfolding runRefusal
         run-by-room l =
-            run-refused 12 (λ z. omega arith)
+            run-refused shortBuffer (λ z. omega arith)
             (rw (h, first-zero, le-leb _ _ low, le-leb _ _ high, first-zero, k, first-zero, lt-ltb _ _ l))
 
         pub run-by-none : answerWidth * tickCount file ≤ room → runOutcome file card room ≡ record { refusal = 0; ticks = tickCount file }
@@ -140,9 +140,9 @@ pub run-taken : (file : List ℕ) (card room : ℕ) → runRefusal file card roo
 unfolding runRefusal
 run-taken file card room e =
     let a = both-zero (cardsRefusal file) _ e in
-    let b = both-zero (cond (leb 1 card && leb card (cardCount file)) 0 13) _ (a .1) in
+    let b = both-zero (cond (leb 1 card && leb card (cardCount file)) 0 noSuchCard) _ (a .1) in
     let c = both-zero (runsRefusal file (runCount file)) _ (b .1) in
-    let there = and-iff (leb 1 card) (leb card (cardCount file)) .0 (zero-of (leb 1 card && leb card (cardCount file)) 13 (omega arith) (b .0)) in
+    let there = and-iff (leb 1 card) (leb card (cardCount file)) .0 (zero-of (leb 1 card && leb card (cardCount file)) noSuchCard (omega arith) (b .0)) in
     let low : 1 ≤ card = leb-iff _ _ .0 (there .0) in
     let high : card ≤ cardCount file = leb-iff _ _ .0 (there .1) in
     record {
@@ -153,7 +153,7 @@ run-taken file card room e =
       fits = ltb-false _ _ (room-left (ltb room (answerWidth * tickCount file)) (c .1));
     }
   where
-    room-left : (b : Bool) → _≡_ {A = ℕ} (cond b 12 0) 0 → b ≡ false
+    room-left : (b : Bool) → _≡_ {A = ℕ} (cond b shortBuffer 0) 0 → b ≡ false
     room-left true e = absurd (omega arith)
     room-left false e = refl
 

@@ -13,8 +13,8 @@ use borrow.Author.Tests.{eqb-false, ltb-false, le-leb, lt-leb}
 use Rattle.numbers.proofs.Tests.{neither-iff}
 use Rattle.record.specs.declared.Record.{Record}
 use Rattle.record.specs.Record.{recordInRange}
-use Rattle.record.specs.Sample.{firstRefusal}
-use Rattle.record.proofs.Refusal.{both-zero, first-zero, first-some}
+use Rattle.refusal.specs.Refusal.{badTicks, badRecord, firstRefusal}
+use Rattle.refusal.proofs.First.{both-zero, first-zero, first-some}
 use Rattle.desk.specs.Journal.{mostTicks}
 use Rattle.exercise.specs.File.{runCount, runTicks, runRecord}
 use Rattle.exercise.specs.Runs.{ticksTo, runFault, runsRefusal, tickRecord}
@@ -29,7 +29,7 @@ pub fault-none : (before ticks : ℕ) (r : Record) → runFault before ticks r �
 unfolding runFault
 fault-none before ticks r h = go (eqb ticks 0 || ltb mostTicks (before + ticks)) (recordInRange r) refl refl h
   where
-    go : (a b : Bool) → (eqb ticks 0 || ltb mostTicks (before + ticks)) ≡ a → recordInRange r ≡ b → _≡_ {A = ℕ} (cond a 11 (cond (not b) 9 0)) 0 → RunGood before ticks r
+    go : (a b : Bool) → (eqb ticks 0 || ltb mostTicks (before + ticks)) ≡ a → recordInRange r ≡ b → _≡_ {A = ℕ} (cond a badTicks (cond (not b) badRecord 0)) 0 → RunGood before ticks r
     go true b e f z = absurd (omega arith)
     go false false e f z = absurd (omega arith)
     go false true e f z =

@@ -6,7 +6,7 @@ use lib.Dec.{leb, ltb, eqb}
 use lib.ListN.{length}
 use Rattle.layout.specs.Layout.{written}
 use Rattle.record.specs.declared.Record.{Record}
-use Rattle.record.specs.Sample.{firstRefusal}
+use Rattle.refusal.specs.Refusal.{badCard, badFile, shortBuffer, noSuchCard, firstRefusal}
 use Rattle.exercise.specs.declared.Counts.{Counts}
 use Rattle.exercise.specs.declared.Ran.{Ran}
 use Rattle.exercise.specs.File.{headerGood, cardCount, runCount, cardIn, cardsInRange}
@@ -29,7 +29,7 @@ module _ (file : List ℕ) where
 
   -- 10, 4 of any card
   unfoldable pub cardsRefusal : ℕ
-  cardsRefusal = cond (not (headerGood file)) 10 (cond (not (cardsInRange file (cardCount file))) 4 0)
+  cardsRefusal = cond (not (headerGood file)) badFile (cond (not (cardsInRange file (cardCount file))) badCard 0)
 
   -- the reader: 10, 4, the runs' 11 and 9
   unfoldable pub readRefusal : ℕ
@@ -47,9 +47,9 @@ module _ (file : List ℕ) (card room : ℕ) where
   unfoldable pub runRefusal : ℕ
   runRefusal =
       firstRefusal (cardsRefusal file)
-      (firstRefusal (cond (leb 1 card && leb card (cardCount file)) 0 13)
+      (firstRefusal (cond (leb 1 card && leb card (cardCount file)) 0 noSuchCard)
       (firstRefusal (runsRefusal file (runCount file))
-      (cond (ltb room (answerWidth * tickCount file)) 12 0)))
+      (cond (ltb room (answerWidth * tickCount file)) shortBuffer 0)))
 
   unfoldable pub runOutcome : Ran
   runOutcome =

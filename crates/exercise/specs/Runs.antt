@@ -4,8 +4,8 @@ use mathlib.Core.Bool.{not, _||_, cond}
 use mathlib.Core.List.{List}
 use lib.Dec.{leb, ltb, eqb}
 use Rattle.record.specs.declared.Record.{Record}
-use Rattle.record.specs.Record.{recordInRange}
-use Rattle.record.specs.Sample.{firstRefusal}
+use Rattle.record.specs.Record.{recordInRange, noRecord}
+use Rattle.refusal.specs.Refusal.{badTicks, badRecord, firstRefusal}
 use Rattle.desk.specs.Journal.{mostTicks}
 use Rattle.exercise.specs.File.{runTicks, runRecord}
 
@@ -17,16 +17,13 @@ ticksTo file (suc j) = ticksTo file j + runTicks file j
 -- after so many ticks: 11 a run of 0 ticks, or sum over 7,200, then 9 a record out of range
 unfoldable pub runFault : ℕ → ℕ → Record → ℕ
 runFault before ticks r =
-    cond (eqb ticks 0 || ltb mostTicks (before + ticks)) 11 (cond (not (recordInRange r)) 9 0)
+    cond (eqb ticks 0 || ltb mostTicks (before + ticks)) badTicks (cond (not (recordInRange r)) badRecord 0)
 
 -- each run in turn
 unfoldable pub runsRefusal : List ℕ → ℕ → ℕ
 runsRefusal file zero = 0
 runsRefusal file (suc j) =
     firstRefusal (runsRefusal file j) (runFault (ticksTo file j) (runTicks file j) (runRecord file j))
-
-abbrev pub noRecord : Record
-noRecord = record { v = 0; code = 0; mode = 0; lever = 0; flags = 0; band = 0; sense = 0 }
 
 -- the record of the tick at place i, from 0: that of the last of the first j runs that begins at or before it
 unfoldable pub tickRecord : List ℕ → ℕ → ℕ → Record

@@ -91,10 +91,10 @@ fn cards_refusal(file: &[u8]) -> u8
     ensures { λ x. ⌜ x ≡ cardsRefusal (now (file .entry)) ⌝ }
 {
     if !header_good(file) {
-        return 10;
+        return refusal::BAD_FILE;
     }
     if !cards_in_range(file, u16_at(file, 0, 0) as usize) {
-        return 4;
+        return refusal::BAD_CARD;
     }
     0
 }
@@ -126,10 +126,10 @@ fn run_fault(before: usize, ticks: usize, r: Record) -> u8
 {
     let most = desk::MOST_TICKS as usize;
     if (ticks == 0) | (most < before + ticks) {
-        return 11;
+        return refusal::BAD_TICKS;
     }
     if !record::record_in_range(r) {
-        return 9;
+        return refusal::BAD_RECORD;
     }
     0
 }
@@ -202,13 +202,13 @@ fn run_outcome(file: &[u8], card: u32, room: usize) -> Ran
     }
     if card < 1 {
         return Ran {
-            refusal: 13,
+            refusal: refusal::NO_SUCH_CARD,
             ticks: 0,
         };
     }
     if (u16_at(file, 0, 0) as u32) < card {
         return Ran {
-            refusal: 13,
+            refusal: refusal::NO_SUCH_CARD,
             ticks: 0,
         };
     }
@@ -218,7 +218,7 @@ fn run_outcome(file: &[u8], card: u32, room: usize) -> Ran
     }
     if room < ANSWER_WIDTH * (runs.ticks as usize) {
         return Ran {
-            refusal: 12,
+            refusal: refusal::SHORT_BUFFER,
             ticks: 0,
         };
     }

@@ -3,6 +3,7 @@ use Prim.Native.Nat.{ℕ, _*_}
 use mathlib.Core.Bool.{cond}
 use lib.Dec.{leb, ltb}
 use lib.Ieee.{Float}
+use Rattle.refusal.specs.Refusal.{badPressure}
 use Rattle.reading.specs.Number.{quantity}
 use Rattle.reading.specs.declared.Pressure.{Pressure}
 use Rattle.reading.specs.declared.Pressure.the-variants.{Band, Refused}
@@ -19,10 +20,10 @@ pressureAt n d = cond (leb n (10 * d)) (Band (bandAt n d)) Refused
 unfoldable pub pressureOf : Float → Pressure
 pressureOf x = quantity Refused pressureAt x
 
--- the number of refusal: 2 is a pressure's, 0 is none
+-- the number of refusal, 0 where there is none
 unfoldable pub pressureRefusal : Pressure → ℕ
 pressureRefusal (Band b) = 0
-pressureRefusal Refused = 2
+pressureRefusal Refused = badPressure
 
 -- the band, 0 where refused
 unfoldable pub pressureBand : Pressure → ℕ

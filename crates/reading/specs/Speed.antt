@@ -3,6 +3,7 @@ use Prim.Native.Nat.{ℕ, _+_, _*_, _/_}
 use mathlib.Core.Bool.{cond}
 use lib.Dec.{leb}
 use lib.Ieee.{Float}
+use Rattle.refusal.specs.Refusal.{badSpeed}
 use Rattle.reading.specs.Number.{quantity}
 use Rattle.reading.specs.declared.Speed.{Speed}
 use Rattle.reading.specs.declared.Speed.the-variants.{Tenths, Refused}
@@ -23,10 +24,10 @@ speedAt n d = cond (leb (rounded n d) topSpeed) (Tenths (rounded n d)) Refused
 unfoldable pub speedOf : Float → Speed
 speedOf x = quantity Refused speedAt x
 
--- the number of refusal: 1 is a speed's, 0 is none
+-- the number of refusal, 0 where there is none
 unfoldable pub speedRefusal : Speed → ℕ
 speedRefusal (Tenths v) = 0
-speedRefusal Refused = 1
+speedRefusal Refused = badSpeed
 
 -- v, 0 where refused
 unfoldable pub speedValue : Speed → ℕ

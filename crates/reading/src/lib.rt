@@ -3,6 +3,8 @@ ghost use mathlib.Core.Path.{_≡_};
 ghost use Rattle.reading.specs.Bits.{floatOfBits};
 ghost use Rattle.reading.specs.Speed.{speedOf, speedRefusal, speedValue};
 ghost use Rattle.reading.specs.Pressure.{pressureOf, pressureRefusal, pressureBand};
+use refusal::BAD_PRESSURE;
+use refusal::BAD_SPEED;
 
 // An f32 is 23 bits of digits, 8 of exponent and one of sign.
 // 2^23: where the exponent begins, and the weight of the leading digit, which has no bit
@@ -66,7 +68,7 @@ pub fn speed_refusal(s: Speed) -> u8
 {
     match s {
         Speed::Tenths(_) => 0,
-        Speed::Refused => 1,
+        Speed::Refused => BAD_SPEED,
     }
 }
 
@@ -111,7 +113,7 @@ pub fn pressure_refusal(p: Pressure) -> u8
 {
     match p {
         Pressure::Band(_) => 0,
-        Pressure::Refused => 2,
+        Pressure::Refused => BAD_PRESSURE,
     }
 }
 

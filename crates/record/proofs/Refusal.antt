@@ -4,38 +4,21 @@ use Prim.Native.Nat.{ℕ, _≤_}
 use native.Mathlib.Omega.{arith}
 use mathlib.Core.Path.{_≡_, refl}
 use mathlib.Core.Bool.{Bool, true, false, cond}
-use borrow.Author.Tests.{eqb-true, eqb-false, ne-eqb}
-use lib.Dec.{eqb}
+use Rattle.refusal.specs.Refusal.{badField}
+use Rattle.refusal.proofs.First.{both-zero}
 use Rattle.reading.specs.Speed.{topSpeed, speedOf, speedRefusal}
 use Rattle.reading.specs.Pressure.{pressureOf, pressureRefusal}
 use Rattle.reading.proofs.Bounds.{speed-value-most, pressure-band-most}
 use Rattle.record.specs.declared.Sample.{Sample}
 use Rattle.record.specs.declared.Record.{Record}
 use Rattle.record.specs.Record.{recordInRange, topBand}
-use Rattle.record.specs.Sample.{firstRefusal, recordRefusal, sampleRecord, sampleRefusal}
-
--- where the first of two numbers is 0, so are both
-pub both-zero : (a b : ℕ) → firstRefusal a b ≡ 0 → (a ≡ 0) × (b ≡ 0)
-unfolding firstRefusal
-both-zero a b h = go (eqb a 0) refl h
-  where
-    go : (t : Bool) → eqb a 0 ≡ t → cond t b a ≡ 0 → (a ≡ 0) × (b ≡ 0)
-    go true e z = (eqb-true a 0 e, z)
-    go false e z = absurd (eqb-false a 0 e z)
-
-pub first-zero : (b : ℕ) → firstRefusal 0 b ≡ b
-unfolding firstRefusal
-first-zero b = refl
-
-pub first-some : (a b : ℕ) → (a ≡ 0 → ⊥) → firstRefusal a b ≡ a
-unfolding firstRefusal
-first-some a b h = rw (ne-eqb a 0 h)
+use Rattle.record.specs.Sample.{recordRefusal, sampleRecord, sampleRefusal}
 
 zero-in-range : (r : Record) → recordRefusal r ≡ 0 → recordInRange r ≡ true
 unfolding recordRefusal
 zero-in-range r h = go (recordInRange r) refl h
   where
-    go : (t : Bool) → recordInRange r ≡ t → _≡_ {A = ℕ} (cond t 0 3) 0 → recordInRange r ≡ true
+    go : (t : Bool) → recordInRange r ≡ t → _≡_ {A = ℕ} (cond t 0 badField) 0 → recordInRange r ≡ true
     go true e z = e
     go false e z = absurd (omega arith)
 

@@ -39,6 +39,10 @@ recordInRange r =
     && leb (r .band) topBand
     && leb (r .sense) reverse
 
+-- a record of zeros, which is out of range: there is no mode 0
+abbrev pub noRecord : Record
+noRecord = record { v = 0; code = 0; mode = 0; lever = 0; flags = 0; band = 0; sense = 0 }
+
 -- how many bytes a record takes
 abbrev pub recordWidth : ℕ
 recordWidth = 8

@@ -1,7 +1,7 @@
 -- The sample: its record, and the number of its refusal.
 use Prim.Native.Nat.{ℕ}
 use mathlib.Core.Bool.{cond}
-use lib.Dec.{eqb}
+use Rattle.refusal.specs.Refusal.{badField, firstRefusal}
 use Rattle.reading.specs.Speed.{speedOf, speedRefusal, speedValue}
 use Rattle.reading.specs.Pressure.{pressureOf, pressureRefusal, pressureBand}
 use Rattle.record.specs.declared.Sample.{Sample}
@@ -21,13 +21,9 @@ sampleRecord s =
       sense = s .sense;
     }
 
--- the first of two numbers of refusal, where 0 is none
-unfoldable pub firstRefusal : ℕ → ℕ → ℕ
-firstRefusal first second = cond (eqb first 0) second first
-
--- refusal 3: another field
+-- another field
 unfoldable pub recordRefusal : Record → ℕ
-recordRefusal r = cond (recordInRange r) 0 3
+recordRefusal r = cond (recordInRange r) 0 badField
 
 -- speed, pressure, another field, in that order
 unfoldable pub sampleRefusal : Sample → ℕ

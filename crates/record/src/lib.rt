@@ -2,7 +2,7 @@
 ghost use mathlib.Core.Path.{_≡_};
 ghost use Rattle.record.specs.Flags.{keysOf};
 ghost use Rattle.record.specs.Record.{recordInRange, recordAt, putRecord};
-ghost use Rattle.record.specs.Sample.{firstRefusal, recordRefusal, sampleRefusal, sampleRecord};
+ghost use Rattle.record.specs.Sample.{recordRefusal, sampleRefusal, sampleRecord};
 use layout::byte_at;
 use layout::u16_at;
 use reading::TOP_SPEED;
@@ -12,6 +12,8 @@ use reading::pressure_refusal;
 use reading::speed_of;
 use reading::speed_refusal;
 use reading::speed_value;
+use refusal::BAD_FIELD;
+use refusal::first_refusal;
 
 // What the cab delivers at a tick: two floats and the switches.
 pub struct Sample {
@@ -132,17 +134,10 @@ pub fn record_in_range(r: Record) -> bool
         & (r.sense <= REVERSE)
 }
 
-// The first of two numbers of refusal, where 0 is none.
-fn first_refusal(first: u8, second: u8) -> u8
-    ensures { λ r. ⌜ r ≡ firstRefusal first second ⌝ }
-{
-    if first == 0 { second } else { first }
-}
-
 fn record_refusal(r: Record) -> u8
     ensures { λ n. ⌜ n ≡ recordRefusal r ⌝ }
 {
-    if record_in_range(r) { 0 } else { 3 }
+    if record_in_range(r) { 0 } else { BAD_FIELD }
 }
 
 pub fn take_sample(s: Sample) -> Taken

@@ -15,7 +15,7 @@ use Rattle.card.specs.Card.{cardInRange}
 use Rattle.card.proofs.Ranges.{card-ranges}
 use Rattle.record.specs.declared.Record.{Record}
 use Rattle.record.specs.declared.Sample.{Sample}
-use Rattle.record.specs.Record.{recordWidth, recordInRange, recordAt, putRecord}
+use Rattle.record.specs.Record.{recordWidth, recordInRange, noRecord, recordAt, putRecord}
 use Rattle.record.specs.Sample.{sampleRefusal, sampleRecord}
 use Rattle.record.proofs.Ranges.{record-ranges}
 use Rattle.record.proofs.Bytes.{put-length, put-before, put-back}
@@ -36,9 +36,6 @@ use Rattle.desk.proofs.Calls as Calls
 use Rattle.replay.specs.Demand3.{Call, Tick, Back, Restart, Drive, outcome, journalAfter, survivors, call, calls, outcomes, opened, Same, Demand3, LastAnswer}
 
 -- ---- the survivors and their records
-abbrev noRecord : Record
-noRecord = record { v = 0; code = 0; mode = 0; lever = 0; flags = 0; band = 0; sense = 0 }
-
 abbrev survivor : List Sample → ℕ → Record
 survivor kept i = getD (map sampleRecord kept) i noRecord
 

@@ -7,22 +7,21 @@ use native.Mathlib.Omega.{arith}
 use Rattle.numbers.proofs.Choice.{cond-has, most-iff}
 use Rattle.reading.specs.Speed.{topSpeed}
 use Rattle.card.specs.declared.Card.{Card}
-use Rattle.card.specs.Card.{CardRanges}
+use Rattle.card.specs.Card.{CardRanges, longWait}
 use Rattle.record.specs.declared.Record.{Record}
 use Rattle.record.specs.Record.{RecordRanges}
 use Rattle.record.specs.Modes.{pos, pre, zav}
 use Rattle.signal.specs.Ranges.{SignalRanges, AspectRanges}
 use Rattle.signal.proofs.Keeps.{aspect-now-ranges}
-use Rattle.vigilance.specs.Ranges.{WatchRanges, OnceRanges}
+use Rattle.vigilance.specs.Ranges.{WatchRanges, OnceRanges, OneTimeRanges}
 use Rattle.vigilance.proofs.Keeps.{watch-kind-most, watched-ranges, asked-ranges}
 use Rattle.causes.specs.Direction.{farthest}
 use Rattle.causes.proofs.Keeps.{wrongway-now-most, wrongway-left-most, standing-now-most, mask-of-most}
 use Rattle.rules.specs.declared.State.{State}
-use Rattle.rules.specs.declared.Findings.{Findings}
 use Rattle.rules.specs.State.{StateRanges}
 use Rattle.rules.specs.Mode.{modeNow, newMode, outsidePre, entered}
 use Rattle.rules.specs.Permitted.{permitted}
-use Rattle.rules.specs.Tick.{aspectIn, permittedIn, kindIn, cyclicIn, oneTimeIn, movedIn, stoodIn, found, FindingsRanges, heldNext, wrongwayNext, stateNext, ticked, advance}
+use Rattle.rules.specs.Tick.{aspectIn, permittedIn, kindIn, cyclicIn, oneTimeIn, movedIn, stoodIn, heldNext, wrongwayNext, stateNext, ticked, advance}
 
 -- ---- step 1
 module _ (s : State) (r : Record) (good : StateRanges s) (fits : RecordRanges r) where
@@ -44,7 +43,7 @@ module _ (s : State) (r : Record) (good : StateRanges s) (fits : RecordRanges r)
     causes-most = good .causes-most;
   }
 
--- ---- steps 2 to 9
+-- ---- steps 2 to 10
 pub permitted-most : (card : Card) (mode speed : ℕ) → CardRanges card → permitted card mode speed ≤ topSpeed
 unfolding permitted
 permitted-most card mode speed good = simp most-iff (omega arith)
@@ -55,29 +54,31 @@ module _ (card : Card) (s : State) (r : Record) (card-good : CardRanges card) (g
   aspect-in-ranges =
       cond-has AspectRanges (eqb (s .mode) pre) (aspect-now-ranges _ _ _ card-good (good .signal) fits _) (omega arith)
 
-  pub found-ranges : FindingsRanges (found card s r)
-  unfolding found permittedIn kindIn cyclicIn oneTimeIn movedIn stoodIn
-  found-ranges = record {
-    aspect = aspect-in-ranges;
-    permitted-most = permitted-most _ _ _ card-good;
-    watch = watched-ranges _ _ card-good _ _ (watch-kind-most _ _ _ _);
-    once = asked-ranges _ _ _ _ _ _ _ (aspect-in-ranges .signal .curve .given-most) (good .once .kind-most);
-    wrongway-most = wrongway-now-most _ _ _ _ (good .wrongway-most);
-    standing-most = standing-now-most _ _ _ _ _ _ card-good (good .standing-most);
-  }
+  pub permitted-in-most : permittedIn card s r ≤ topSpeed
+  unfolding permittedIn
+  permitted-in-most = permitted-most _ _ _ card-good
 
--- ---- step 10
-module _ (card : Card) (s : State) (r : Record) (f : Findings) (good : StateRanges s) (f-good : FindingsRanges f) where
-  wrongway-next-most : wrongwayNext card s r f ≤ farthest
-  unfolding wrongwayNext
-  wrongway-next-most = wrongway-left-most _ _ _ _ (f-good .wrongway-most)
+  watch-in-ranges : WatchRanges (cyclicIn card s r .watch)
+  unfolding kindIn cyclicIn
+  watch-in-ranges = watched-ranges _ _ card-good _ _ (watch-kind-most _ _ _ _)
 
-  pub state-next-ranges : StateRanges (stateNext card s r f)
+  one-time-in-ranges : OneTimeRanges (oneTimeIn card s r)
+  unfolding oneTimeIn
+  one-time-in-ranges = asked-ranges _ _ _ _ _ _ _ (aspect-in-ranges .signal .curve .given-most) (good .once .kind-most)
+
+  wrongway-next-most : wrongwayNext card s r ≤ farthest
+  unfolding movedIn wrongwayNext
+  wrongway-next-most = wrongway-left-most _ _ _ _ (wrongway-now-most _ _ _ _ (good .wrongway-most))
+
+  standing-in-most : stoodIn card s r .standing ≤ longWait
+  unfolding stoodIn
+  standing-in-most = standing-now-most _ _ _ _ _ _ card-good (good .standing-most)
+
+  pub state-next-ranges : StateRanges (stateNext card s r)
   unfolding stateNext
-  state-next-ranges = omega (arith, wrongway-next-most, mask-of-most (heldNext card s r f))
+  state-next-ranges =
+      omega (arith, aspect-in-ranges, watch-in-ranges, one-time-in-ranges, wrongway-next-most, standing-in-most, mask-of-most (heldNext card s r))
 
 pub advance-keeps : (card : Card) (s : State) (r : Record) → CardRanges card → StateRanges s → RecordRanges r → StateRanges (advance card s r .state)
 unfolding advance ticked
-advance-keeps card s r card-good good fits =
-    let begun = entered-ranges s r good fits in
-    state-next-ranges _ _ _ _ begun (found-ranges _ _ _ card-good begun fits)
+advance-keeps card s r card-good good fits = state-next-ranges _ _ _ card-good (entered-ranges s r good fits) fits

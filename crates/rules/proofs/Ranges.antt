@@ -7,7 +7,7 @@ use Rattle.numbers.proofs.Tests.{and-iff, leb-iff}
 use Rattle.signal.proofs.Ranges.{signal-ranges, ranges-signal}
 use Rattle.vigilance.proofs.Ranges.{watch-ranges, ranges-watch, once-ranges, ranges-once}
 use Rattle.rules.specs.declared.State.{State}
-use Rattle.rules.specs.State.{fresh, StateRanges, stateInRange}
+use Rattle.rules.specs.State.{freshState, StateRanges, stateInRange}
 
 pub state-ranges : (s : State) → stateInRange s ≡ true → StateRanges s
 unfolding stateInRange
@@ -17,5 +17,5 @@ pub ranges-state : (s : State) → StateRanges s → stateInRange s ≡ true
 unfolding stateInRange
 ranges-state s h = simp (and-iff, leb-iff) (search (ranges-signal, ranges-once, ranges-watch))
 
-pub fresh-ranges : StateRanges fresh
+pub fresh-ranges : StateRanges freshState
 fresh-ranges = omega arith

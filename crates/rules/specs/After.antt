@@ -2,14 +2,10 @@
 use Prim.Native.Nat.{ℕ, zero, suc}
 use Rattle.card.specs.declared.Card.{Card}
 use Rattle.record.specs.declared.Record.{Record}
-use Rattle.rules.specs.declared.Answer.{Answer}
 use Rattle.rules.specs.declared.Advanced.{Advanced}
-use Rattle.rules.specs.State.{fresh}
-use Rattle.rules.specs.Tick.{advance}
-
-abbrev pub noAnswer : Answer
-noAnswer = record { permitted = 0; target = 0; marks = 0; causes = 0; lowest = 0; held = 0 }
+use Rattle.rules.specs.State.{freshState}
+use Rattle.rules.specs.Tick.{noAnswer, advance}
 
 unfoldable pub after : Card → (ℕ → Record) → ℕ → Advanced
-after card records zero = record { state = fresh; answer = noAnswer }
+after card records zero = record { state = freshState; answer = noAnswer }
 after card records (suc m) = advance card (after card records m .state) (records m)

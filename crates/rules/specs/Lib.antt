@@ -2,4 +2,5 @@ pub mod State
 pub mod Mode
 pub mod Permitted
 pub mod Tick
+pub mod Found
 pub mod After

@@ -4,8 +4,9 @@ use mathlib.Core.Bool.{Bool, not, _||_, cond}
 use lib.Dec.{eqb}
 use Rattle.record.specs.declared.Record.{Record}
 use Rattle.record.specs.Modes.{pre}
+use Rattle.signal.specs.Ranges.{noSignal}
+use Rattle.vigilance.specs.Ranges.{noWatch, noOnce}
 use Rattle.rules.specs.declared.State.{State}
-use Rattle.rules.specs.State.{noSignal, noOnce, noWatch}
 
 module _ (s : State) (r : Record) where
   -- if v = 0, the asked mode is taken; if v > 0 the mode stays

@@ -5,24 +5,11 @@ use lib.Dec.{leb}
 use Rattle.card.specs.Card.{longWait}
 use Rattle.record.specs.Modes.{pos, zav}
 use Rattle.record.specs.Flags.{allButtons}
-use Rattle.signal.specs.declared.Signal.{Signal}
-use Rattle.signal.specs.NewCode.{noCurve}
-use Rattle.signal.specs.Ranges.{SignalRanges, signalInRange}
-use Rattle.vigilance.specs.declared.Watch.{Watch}
-use Rattle.vigilance.specs.declared.Once.{Once}
-use Rattle.vigilance.specs.Ranges.{WatchRanges, OnceRanges, watchInRange, onceInRange}
+use Rattle.signal.specs.Ranges.{noSignal, SignalRanges, signalInRange}
+use Rattle.vigilance.specs.Ranges.{noWatch, noOnce, WatchRanges, OnceRanges, watchInRange, onceInRange}
 use Rattle.causes.specs.Held.{allHeld}
 use Rattle.causes.specs.Direction.{farthest}
 use Rattle.rules.specs.declared.State.{State}
-
-abbrev pub noSignal : Signal
-noSignal = record { codes = record { last = 0; before = 0; gap = 0; raise = 0 }; curve = noCurve; man = 0 }
-
-abbrev pub noOnce : Once
-noOnce = record { ticks = 0; kind = 0 }
-
-abbrev pub noWatch : Watch
-noWatch = record { kind = 0; ticks = 0 }
 
 -- a mode, all else 0
 abbrev pub only : ℕ → State
@@ -38,8 +25,8 @@ only mode = record {
 }
 
 -- mode 1, all else 0
-abbrev pub fresh : State
-fresh = only pos
+abbrev pub freshState : State
+freshState = only pos
 
 pub record StateRanges (s : State) : Type 0 where
   pub mode-least : pos ≤ s .mode

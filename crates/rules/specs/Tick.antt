@@ -1,36 +1,43 @@
 -- One tick: what it finds, step by step, and what it makes of it.
-use Prim.Native.Nat.{ℕ, _+_, _≤_}
+use Prim.Native.Nat.{ℕ, _+_}
 use mathlib.Core.Bool.{false, _||_, cond}
 use lib.Dec.{ltb, eqb}
-use Rattle.reading.specs.Speed.{topSpeed}
 use Rattle.card.specs.declared.Card.{Card}
-use Rattle.card.specs.Card.{longWait}
+use Rattle.card.specs.Card.{beyond}
 use Rattle.record.specs.declared.Record.{Record}
 use Rattle.record.specs.declared.Keys.{Keys}
 use Rattle.record.specs.Modes.{pre}
 use Rattle.record.specs.Flags.{keysOf, buttonsOf}
+use Rattle.signal.specs.declared.Signal.{Signal}
 use Rattle.signal.specs.declared.Aspect.{Aspect}
-use Rattle.signal.specs.Ranges.{AspectRanges}
 use Rattle.signal.specs.Speed.{on, runs}
 use Rattle.signal.specs.Aspect.{aspectNow}
 use Rattle.vigilance.specs.declared.Cyclic.{Cyclic}
+use Rattle.vigilance.specs.declared.Once.{Once}
 use Rattle.vigilance.specs.declared.OneTime.{OneTime}
-use Rattle.vigilance.specs.Ranges.{WatchRanges, OneTimeRanges}
 use Rattle.vigilance.specs.Watch.{watchKind, watched}
 use Rattle.vigilance.specs.Once.{asked}
 use Rattle.causes.specs.declared.Causes.{Causes}
 use Rattle.causes.specs.declared.Moved.{Moved}
 use Rattle.causes.specs.declared.Stood.{Stood}
 use Rattle.causes.specs.Held.{heldIn, maskOf, lowest, howMany}
-use Rattle.causes.specs.Direction.{farthest, moved}
-use Rattle.causes.specs.Standing.{stood}
-use Rattle.causes.specs.Keeping.{overspeeds, remoteStops, released, kept, wrongwayLeft}
+use Rattle.causes.specs.Direction.{driven}
+use Rattle.causes.specs.Standing.{parked}
+use Rattle.causes.specs.Keeping.{remoteStops, released, kept, wrongwayLeft}
 use Rattle.rules.specs.declared.State.{State}
-use Rattle.rules.specs.declared.Findings.{Findings}
 use Rattle.rules.specs.declared.Answer.{Answer}
 use Rattle.rules.specs.declared.Advanced.{Advanced}
 use Rattle.rules.specs.Mode.{entered}
 use Rattle.rules.specs.Permitted.{permitted}
+
+-- marks: bit 0 MAN, 1 curve, 2 cyclic prompt, 3 one-time prompt, 4 its kind, 5 ZS20
+unfoldable pub marks : Signal → Cyclic → Once → Stood → ℕ
+marks signal cyclic once stood =
+    cond (on (signal .man)) 1 0 + cond (runs (signal .curve)) 2 0 + cond (cyclic .prompts) 4 0
+    + cond (ltb 0 (once .ticks)) 8 0 + cond (ltb 0 (once .kind)) 16 0 + cond (stood .sounds) 32 0
+
+abbrev pub noAnswer : Answer
+noAnswer = record { permitted = 0; target = 0; marks = 0; causes = 0; lowest = 0; held = 0 }
 
 -- s: the state as step 1 leaves it
 module _ (card : Card) (s : State) (r : Record) where
@@ -58,42 +65,32 @@ module _ (card : Card) (s : State) (r : Record) where
   unfoldable pub oneTimeIn : OneTime
   oneTimeIn = asked card (aspectIn .signal .curve) (aspectIn .begins) (aspectIn .target) (r .v) keysIn (s .once)
 
-  -- step 9
+  -- step 9: NZ3 and NZ5 by what they count
   unfoldable pub movedIn : Moved
-  movedIn = moved (s .mode) r keysIn (s .wrongway)
+  movedIn = driven (s .mode) r keysIn (s .wrongway)
 
   unfoldable pub stoodIn : Stood
-  stoodIn = stood card (s .mode) r keysIn (heldIn (s .causes) .nz5) (s .standing)
+  stoodIn = parked card (s .mode) r keysIn (heldIn (s .causes) .nz5) (s .standing)
 
-  unfoldable pub found : Findings
-  found = record {
-    keys = keysIn;
-    aspect = aspectIn;
-    permitted = permittedIn;
-    cyclic = cyclicIn;
-    once = oneTimeIn;
-    moved = movedIn;
-    stood = stoodIn;
+  -- the triggers; NZ2 in all modes: v > P + tolerance
+  unfoldable pub triggersIn : Causes
+  triggersIn = record {
+    nz1 = cyclicIn .lapses || oneTimeIn .lapses;
+    nz2 = beyond card permittedIn (r .v);
+    nz3 = movedIn .triggers;
+    nz4 = remoteStops (s .mode) keysIn;
+    nz5 = stoodIn .triggers;
   }
 
--- f: what steps 2 to 9 found
-module _ (card : Card) (s : State) (r : Record) (f : Findings) where
-  -- step 9: the triggers
-  unfoldable pub triggered : Causes
-  triggered = record {
-    nz1 = f .cyclic .lapses || f .once .lapses;
-    nz2 = overspeeds card (f .permitted) (r .v);
-    nz3 = f .moved .triggers;
-    nz4 = remoteStops (s .mode) (f .keys);
-    nz5 = f .stood .triggers;
-  }
+  -- step 10
+  unfoldable pub releasesIn : Causes
+  releasesIn = released permittedIn r keysIn
 
-  -- step 10: which causes are held then
   unfoldable pub heldNext : Causes
-  heldNext = kept (heldIn (s .causes)) triggered (released (f .permitted) r (f .keys))
+  heldNext = kept (heldIn (s .causes)) triggersIn releasesIn
 
   unfoldable pub wrongwayNext : ℕ
-  wrongwayNext = wrongwayLeft (f .moved .wrongway) (heldIn (s .causes)) triggered (released (f .permitted) r (f .keys))
+  wrongwayNext = wrongwayLeft (movedIn .wrongway) (heldIn (s .causes)) triggersIn releasesIn
 
   -- then the buttons and, in PRE, the last code become this tick's
   unfoldable pub stateNext : State
@@ -101,47 +98,34 @@ module _ (card : Card) (s : State) (r : Record) (f : Findings) where
     mode = s .mode;
     buttons = buttonsOf (r .flags);
     signal = record {
-      codes = f .aspect .signal .codes;
+      codes = aspectIn .signal .codes;
       curve = record {
-        start = f .aspect .signal .curve .start;
-        age = f .aspect .signal .curve .age;
-        given = f .once .given;
+        start = aspectIn .signal .curve .start;
+        age = aspectIn .signal .curve .age;
+        given = oneTimeIn .given;
       };
-      man = f .aspect .signal .man;
+      man = aspectIn .signal .man;
     };
-    once = f .once .once;
-    watch = f .cyclic .watch;
+    once = oneTimeIn .once;
+    watch = cyclicIn .watch;
     wrongway = wrongwayNext;
-    standing = f .stood .standing;
+    standing = stoodIn .standing;
     causes = maskOf heldNext;
   }
 
--- marks: bit 0 MAN, 1 curve, 2 cyclic prompt, 3 one-time prompt, 4 its kind, 5 ZS20
-unfoldable pub marks : Findings → ℕ
-marks f =
-    cond (on (f .aspect .signal .man)) 1 0 + cond (runs (f .aspect .signal .curve)) 2 0 + cond (f .cyclic .prompts) 4 0
-    + cond (ltb 0 (f .once .once .ticks)) 8 0 + cond (ltb 0 (f .once .once .kind)) 16 0 + cond (f .stood .sounds) 32 0
+  unfoldable pub answerNow : Answer
+  answerNow = record {
+    permitted = permittedIn;
+    target = aspectIn .target;
+    marks = marks (aspectIn .signal) cyclicIn (oneTimeIn .once) stoodIn;
+    causes = maskOf heldNext;
+    lowest = lowest (maskOf heldNext);
+    held = howMany (maskOf heldNext);
+  }
 
-unfoldable pub answer : Findings → ℕ → Answer
-answer f causes = record {
-  permitted = f .permitted;
-  target = f .aspect .target;
-  marks = marks f;
-  causes = causes;
-  lowest = lowest causes;
-  held = howMany causes;
-}
+  unfoldable pub ticked : Advanced
+  ticked = record { state = stateNext; answer = answerNow }
 
-unfoldable pub ticked : Card → State → Record → Findings → Advanced
-ticked card s r f = record { state = stateNext card s r f; answer = answer f (stateNext card s r f .causes) }
-
+-- steps 1 to 10
 unfoldable pub advance : Card → State → Record → Advanced
-advance card s r = ticked card (entered s r) r (found card (entered s r) r)
-
-pub record FindingsRanges (f : Findings) : Type 0 where
-  pub aspect : AspectRanges (f .aspect)
-  pub permitted-most : f .permitted ≤ topSpeed
-  pub watch : WatchRanges (f .cyclic .watch)
-  pub once : OneTimeRanges (f .once)
-  pub wrongway-most : f .moved .wrongway ≤ farthest
-  pub standing-most : f .stood .standing ≤ longWait
+advance card s r = ticked card (entered s r) r

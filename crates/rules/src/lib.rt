@@ -5,11 +5,12 @@ ghost use Rattle.card.specs.Card.{CardRanges};
 ghost use Rattle.reading.specs.Speed.{topSpeed};
 ghost use Rattle.record.specs.Modes.{pos, zav};
 ghost use Rattle.record.specs.Record.{RecordRanges};
-ghost use Rattle.signal.specs.Ranges.{SignalRanges, AspectRanges};
-ghost use Rattle.rules.specs.State.{fresh, noSignal, StateRanges, stateInRange};
+ghost use Rattle.signal.specs.Ranges.{AspectRanges};
+ghost use Rattle.rules.specs.State.{freshState, StateRanges, stateInRange};
 ghost use Rattle.rules.specs.Mode.{modeNow, entered};
 ghost use Rattle.rules.specs.Permitted.{ceiling, permitted};
-ghost use Rattle.rules.specs.Tick.{keysIn, aspectIn, found, FindingsRanges, triggered, stateNext, marks, ticked, advance};
+ghost use Rattle.rules.specs.Tick.{keysIn, aspectIn, triggersIn, stateNext, marks, ticked, advance};
+ghost use Rattle.rules.specs.Found.{found};
 use card::Card;
 use causes::Causes;
 use causes::Moved;
@@ -17,7 +18,6 @@ use causes::Stood;
 use record::Keys;
 use record::Record;
 use signal::Aspect;
-use signal::Codes;
 use signal::Curve;
 use signal::Signal;
 use vigilance::Cyclic;
@@ -73,12 +73,12 @@ pub struct Advanced {
 const ALL_BUTTONS: u8 = 7;
 
 pub fn fresh_state() -> State
-    ensures { λ s. ⌜ s ≡ fresh ⌝ }
+    ensures { λ s. ⌜ s ≡ freshState ⌝ }
 {
     State {
         mode: record::POS,
         buttons: 0,
-        signal: no_signal(),
+        signal: signal::no_signal(),
         once: Once { ticks: 0, kind: 0 },
         watch: Watch { kind: 0, ticks: 0 },
         wrongway: 0,
@@ -99,25 +99,6 @@ pub fn state_in_range(s: State) -> bool
         & (s.wrongway <= causes::FARTHEST)
         & (s.standing <= card::LONG_WAIT)
         & (s.causes <= causes::ALL_HELD)
-}
-
-fn no_signal() -> Signal
-    ensures { λ s. ⌜ (s ≡ noSignal) × SignalRanges s ⌝ }
-{
-    Signal {
-        codes: Codes {
-            last: 0,
-            before: 0,
-            gap: 0,
-            raise: 0,
-        },
-        curve: Curve {
-            start: 0,
-            age: 0,
-            given: 0,
-        },
-        man: 0,
-    }
 }
 
 fn mode_now(s: State, r: Record) -> u8
@@ -142,7 +123,7 @@ fn entered(s: State, r: Record) -> State
         if mode == record::PRE {
             return x;
         }
-        let none = no_signal();
+        let none = signal::no_signal();
         let quiet = Once { ticks: 0, kind: 0 };
         x.signal = none;
         x.once = quiet;
@@ -204,7 +185,7 @@ fn permitted(card: Card, mode: u8, speed: u16) -> u16
 // Steps 2 to 9.
 fn found(card: Card, s: State, r: Record) -> Findings
     requires { ⌜ CardRanges card × StateRanges s × RecordRanges r ⌝ }
-    ensures { λ x. ⌜ (x ≡ found card s r) × FindingsRanges x ⌝ }
+    ensures { λ x. ⌜ x ≡ found card s r ⌝ }
 {
     let keys = record::keys_of(r.flags, s.buttons);
     let aspect = aspect_in(card, s, r, keys);
@@ -217,7 +198,14 @@ fn found(card: Card, s: State, r: Record) -> Findings
     let once = s.once;
     let asked = vigilance::asked(card, curve, aspect.begins, aspect.target, r.v, keys, once);
     let moved = causes::driven(s.mode, r, keys, s.wrongway);
-    let stood = causes::parked(card, s.mode, r, keys, s.causes / 16 % 2 == 1, s.standing);
+    let stood = causes::parked(
+        card,
+        s.mode,
+        r,
+        keys,
+        causes::holds_nz5(s.causes),
+        s.standing,
+    );
     Findings {
         keys: keys,
         aspect: aspect,
@@ -230,9 +218,9 @@ fn found(card: Card, s: State, r: Record) -> Findings
 }
 
 // Step 9: the triggers.
-fn triggered(card: Card, s: State, r: Record, f: Findings) -> Causes
-    requires { ⌜ CardRanges card × FindingsRanges f ⌝ }
-    ensures { λ x. ⌜ x ≡ triggered card s r f ⌝ }
+fn triggers_in(card: Card, s: State, r: Record, f: Findings) -> Causes
+    requires { ⌜ CardRanges card × StateRanges s × RecordRanges r × (f ≡ found card s r) ⌝ }
+    ensures { λ x. ⌜ x ≡ triggersIn card s r ⌝ }
 {
     Causes {
         nz1: f.cyclic.lapses | f.once.lapses,
@@ -245,16 +233,16 @@ fn triggered(card: Card, s: State, r: Record, f: Findings) -> Causes
 
 // Step 10, and the state that the next tick starts from.
 fn state_next(card: Card, s: State, r: Record, f: Findings) -> State
-    requires { ⌜ CardRanges card × StateRanges s × FindingsRanges f ⌝ }
-    ensures { λ x. ⌜ (x ≡ stateNext card s r f) × StateRanges x ⌝ }
+    requires { ⌜ CardRanges card × StateRanges s × RecordRanges r × (f ≡ found card s r) ⌝ }
+    ensures { λ x. ⌜ (x ≡ stateNext card s r) × StateRanges x ⌝ }
 {
-    let triggered = triggered(card, s, r, f);
+    let triggers = triggers_in(card, s, r, f);
     let keys = f.keys;
-    let mask = causes::mask_next(s.causes, triggered, f.permitted, r, keys);
+    let mask = causes::mask_next(s.causes, triggers, f.permitted, r, keys);
     let wrongway = causes::wrongway_left(
         f.moved.wrongway,
         s.causes,
-        triggered,
+        triggers,
         f.permitted,
         r,
         keys,
@@ -282,24 +270,28 @@ fn state_next(card: Card, s: State, r: Record, f: Findings) -> State
     }
 }
 
-fn marks(f: Findings) -> u8
-    ensures { λ x. ⌜ x ≡ marks f ⌝ }
+fn marks(signal: Signal, cyclic: Cyclic, once: Once, stood: Stood) -> u8
+    ensures { λ x. ⌜ x ≡ marks signal cyclic once stood ⌝ }
 {
-    numbers::weight(0 < f.aspect.signal.man, 1)
-        + numbers::weight(0 < f.aspect.signal.curve.start, 2)
-        + numbers::weight(f.cyclic.prompts, 4)
-        + numbers::weight(0 < f.once.once.ticks, 8)
-        + numbers::weight(0 < f.once.once.kind, 16)
-        + numbers::weight(f.stood.sounds, 32)
+    numbers::weight(0 < signal.man, 1)
+        + numbers::weight(0 < signal.curve.start, 2)
+        + numbers::weight(cyclic.prompts, 4)
+        + numbers::weight(0 < once.ticks, 8)
+        + numbers::weight(0 < once.kind, 16)
+        + numbers::weight(stood.sounds, 32)
 }
 
 // Step 10 and the answer.
 fn ticked(card: Card, s: State, r: Record, f: Findings) -> Advanced
-    requires { ⌜ CardRanges card × StateRanges s × FindingsRanges f ⌝ }
-    ensures { λ x. ⌜ (x ≡ ticked card s r f) × StateRanges (x .state) ⌝ }
+    requires { ⌜ CardRanges card × StateRanges s × RecordRanges r × (f ≡ found card s r) ⌝ }
+    ensures { λ x. ⌜ (x ≡ ticked card s r) × StateRanges (x .state) ⌝ }
 {
     let next = state_next(card, s, r, f);
-    let marks = marks(f);
+    let signal = f.aspect.signal;
+    let cyclic = f.cyclic;
+    let once = f.once.once;
+    let stood = f.stood;
+    let marks = marks(signal, cyclic, once, stood);
     let lowest = causes::lowest(next.causes);
     let held = causes::how_many(next.causes);
     Advanced {

@@ -19,10 +19,10 @@ use Rattle.signal.specs.declared.Signal.{Signal}
 use Rattle.signal.specs.Ranges.{CurveRanges, SignalRanges, AspectRanges, longestGap, mostRaise, oldestAge}
 use Rattle.signal.specs.Target.{target}
 use Rattle.signal.specs.Speed.{curveValue, signalSpeed}
-use Rattle.signal.specs.NewCode.{oldSpeed, manByCode, curveByCode, beforeNext, gapNext}
+use Rattle.signal.specs.NewCode.{oldSpeed, manByCode, curveByCode, gapCodeNext, gapNext, raiseByCode}
 use Rattle.signal.specs.Plus.{raiseNext}
 use Rattle.signal.specs.Man.{manLowered}
-use Rattle.signal.specs.Curve.{ageNow, curveHolds, curveAged}
+use Rattle.signal.specs.Curve.{ageNow, curveHolds, curveAged, manStarted}
 use Rattle.signal.specs.Aspect.{targetNow, curveNext, manNext, aspectNow}
 use Rattle.signal.proofs.Spent.{unspent}
 
@@ -40,16 +40,16 @@ unfolding manLowered
 man-lowered-most was now unchanged t v p = simp most-iff (omega arith)
 
 module _ (s : Signal) (r : Record) (good : SignalRanges s) where
-  pub before-next-most : beforeNext s r ≤ clear
-  unfolding beforeNext
-  before-next-most = simp most-iff (omega arith)
+  pub gap-code-next-most : gapCodeNext s r ≤ clear
+  unfolding gapCodeNext
+  gap-code-next-most = simp most-iff (omega arith)
 
   pub gap-next-most : gapNext s r ≤ longestGap
   unfolding gapNext
   gap-next-most = simp most-iff (omega arith)
 
   pub raise-next-most : (k : Keys) → raiseNext s r k ≤ mostRaise
-  unfolding raiseNext
+  unfolding raiseNext raiseByCode
   raise-next-most k = simp (most-iff, and-iff) (omega (arith, ltb-true))
 
 module _ (card : Card) (curve : Curve) (begins : Bool) (t : ℕ) (k : Keys) (card-good : CardRanges card) (good : CurveRanges curve) where
@@ -84,13 +84,14 @@ module _ (card : Card) (s : Signal) (r : Record) (card-good : CardRanges card) (
     curve-next-ranges = curve-aged-ranges _ _ _ _ _ card-good curve-by-code-ranges
 
     man-next-most : manNext card s r k ≤ topSpeed
+    unfolding manStarted
     man-next-most = simp most-iff (omega arith, λ e. man-lowered-most _ _ _ _ _ man-by-code-most)
 
     pub aspect-now-ranges : AspectRanges (aspectNow card s r k)
     unfolding aspectNow
     aspect-now-ranges = record {
       signal = record {
-        codes = omega (arith, before-next-most s r good, gap-next-most s r good, raise-next-most s r good k);
+        codes = omega (arith, gap-code-next-most s r good, gap-next-most s r good, raise-next-most s r good k);
         curve = curve-next-ranges;
         man-most = man-next-most;
       };

@@ -2,9 +2,8 @@
 -- With r ≥ 5 and V0 ≤ 2500, 5000 · r / 10 is at least V0.
 use Prim.Native.Nat.{ℕ, _*_, _≤_, _<_}
 use mathlib.Core.Path.{_≡_}
-use native.Mathlib.Nat.{mul-le-mul}
+use native.Mathlib.Nat.{mul-le-mul, mul-le-mul-left}
 use native.Mathlib.Omega.{arith}
-use native.Mathlib.Decide.{decLe}
 use Rattle.card.specs.declared.Card.{Card}
 use Rattle.card.specs.Card.{CardRanges}
 use Rattle.signal.specs.declared.Curve.{Curve}
@@ -12,16 +11,9 @@ use Rattle.signal.specs.Ranges.{CurveRanges}
 use Rattle.signal.specs.Speed.{curveValue}
 
 module _ (card : Card) (curve : Curve) (t age : ℕ) (card-good : CardRanges card) (curve-good : CurveRanges curve) where
-  spent : 5000 ≤ age → curveValue card curve t age ≡ t
-  unfolding curveValue
-  spent h = omega (arith, mul-le-mul h (card-good .deceleration-least))
-
   pub unspent : (curveValue card curve t age ≡ t → ⊥) → age < 5000
-  unspent n = go (decLe 5000 age)
-    where
-      go : Dec (5000 ≤ age) → age < 5000
-      go (yes h) = absurd (n (spent h))
-      go (no h) = omega arith
+  unfolding curveValue
+  unspent n = omega (arith, mul-le-mul-left age (card-good .deceleration-least))
 
 -- the product of two u16 fits a u32
 pub product-fits : {a b : ℕ} → a < 65536 → b < 65536 → a * b < 4294967296

@@ -7,10 +7,11 @@ use Rattle.record.specs.declared.Keys.{Keys}
 use Rattle.signal.specs.declared.Curve.{Curve}
 use Rattle.signal.specs.declared.Aging.{Aging}
 use Rattle.signal.specs.Speed.{runs, curveValue}
-use Rattle.signal.specs.NewCode.{noCurve, manAt}
+use Rattle.signal.specs.Ranges.{noCurve}
+use Rattle.signal.specs.NewCode.{manAt}
 
 -- an older curve ages by one
-abbrev pub ageNow : Curve → Bool → ℕ
+unfoldable pub ageNow : Curve → Bool → ℕ
 ageNow curve begins = cond begins (curve .age) (curve .age + 1)
 
 -- when its value equals T the curve ends
@@ -32,5 +33,5 @@ module _ (card : Card) (curve : Curve) (begins : Bool) (t : ℕ) (keys : Keys) w
   abbrev pub aged : Aging
   aged = record { curve = curveAged; starts = manStarts }
 
-abbrev pub manStarted : Bool → ℕ → ℕ → ℕ
+unfoldable pub manStarted : Bool → ℕ → ℕ → ℕ
 manStarted starts man v = cond starts (manAt v) man

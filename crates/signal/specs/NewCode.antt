@@ -8,12 +8,9 @@ use Rattle.record.specs.Codes.{none}
 use Rattle.signal.specs.declared.Curve.{Curve}
 use Rattle.signal.specs.declared.Signal.{Signal}
 use Rattle.signal.specs.declared.Turn.{Turn}
-use Rattle.signal.specs.Ranges.{longestGap}
+use Rattle.signal.specs.Ranges.{longestGap, noCurve}
 use Rattle.signal.specs.Target.{target}
 use Rattle.signal.specs.Speed.{on, signalSpeed}
-
-abbrev pub noCurve : Curve
-noCurve = record { start = 0; age = 0; given = 0 }
 
 abbrev pub curveFrom : ℕ → Curve
 curveFrom speed = record { start = speed; age = 0; given = 0 }
@@ -36,7 +33,7 @@ newCode s r = not (unchanged s r)
 abbrev pub oldSpeed : Card → Signal → ℕ
 oldSpeed card s = signalSpeed card (s .curve) (s .man) (target card (s .codes .last) (s .codes .raise))
 
--- raise becomes 0 before the new T is taken
+-- the new T, at raise 0
 abbrev pub newTarget : Card → Record → ℕ
 newTarget card r = target card (r .code) 0
 
@@ -67,19 +64,20 @@ module _ (card : Card) (s : Signal) (r : Record) where
   turned = record { man = manByCode; curve = curveByCode; begins = curveBegins }
 
 module _ (s : Signal) (r : Record) where
-  -- a change to 0 puts the old code in k and g = 1; a change from 0 ends with k = g = 0
-  unfoldable pub beforeNext : ℕ
-  beforeNext =
+  -- k: a change to 0 puts the old code in k and g = 1; a change from 0 ends with k = g = 0
+  unfoldable pub gapCodeNext : ℕ
+  gapCodeNext =
       cond (newCode s r)
       (cond (eqb (r .code) none) (s .codes .last) (cond (eqb (s .codes .last) none) 0 (s .codes .before)))
       (s .codes .before)
 
-  -- if code 0 goes on, g grows by one, to 51 at most
+  -- g: if code 0 goes on, g grows by one, to 51 at most
   unfoldable pub gapNext : ℕ
   gapNext =
       cond (newCode s r)
       (cond (eqb (r .code) none) 1 (cond (eqb (s .codes .last) none) 0 (s .codes .gap)))
       (cond (eqb (r .code) none) (min longestGap (s .codes .gap + 1)) (s .codes .gap))
 
-  abbrev pub raiseByCode : ℕ
+  -- raise becomes 0 before the new T is taken
+  unfoldable pub raiseByCode : ℕ
   raiseByCode = cond (newCode s r) 0 (s .codes .raise)

@@ -8,7 +8,7 @@ use Rattle.record.specs.Codes.{forty}
 use Rattle.signal.specs.declared.Codes.{Codes}
 use Rattle.signal.specs.declared.Signal.{Signal}
 use Rattle.signal.specs.Ranges.{mostRaise}
-use Rattle.signal.specs.NewCode.{raiseByCode, beforeNext, gapNext}
+use Rattle.signal.specs.NewCode.{raiseByCode, gapCodeNext, gapNext}
 
 module _ (s : Signal) (r : Record) (keys : Keys) where
   unfoldable pub raiseNext : ℕ
@@ -16,4 +16,4 @@ module _ (s : Signal) (r : Record) (keys : Keys) where
       cond (keys .plus && eqb (r .code) forty && ltb (raiseByCode s r) mostRaise) (raiseByCode s r + 1) (raiseByCode s r)
 
   abbrev pub codesNext : Codes
-  codesNext = record { last = r .code; before = beforeNext s r; gap = gapNext s r; raise = raiseNext }
+  codesNext = record { last = r .code; before = gapCodeNext s r; gap = gapNext s r; raise = raiseNext }

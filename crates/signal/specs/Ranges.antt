@@ -1,4 +1,4 @@
--- Ranges of what the desk holds of the signals, and of what steps 2 to 6 find: as facts, and as the test that the code makes.
+-- What the desk holds of the signals: none, and its ranges, as facts and as the test that the code makes; ranges of what steps 2 to 6 find.
 use Prim.Native.Nat.{ℕ, _≤_}
 use mathlib.Core.Bool.{Bool, _&&_}
 use lib.Dec.{leb}
@@ -19,6 +19,12 @@ mostRaise = 4
 
 abbrev pub oldestAge : ℕ
 oldestAge = 5000
+
+abbrev pub noCurve : Curve
+noCurve = record { start = 0; age = 0; given = 0 }
+
+abbrev pub noSignal : Signal
+noSignal = record { codes = record { last = 0; before = 0; gap = 0; raise = 0 }; curve = noCurve; man = 0 }
 
 pub record CodesRanges (c : Codes) : Type 0 where
   pub last-most : c .last ≤ clear

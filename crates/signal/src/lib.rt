@@ -5,10 +5,10 @@ ghost use Rattle.card.specs.Card.{CardRanges};
 ghost use Rattle.reading.specs.Speed.{topSpeed};
 ghost use Rattle.record.specs.Codes.{clear};
 ghost use Rattle.record.specs.Record.{RecordRanges};
-ghost use Rattle.signal.specs.Ranges.{longestGap, mostRaise, oldestAge, CurveRanges, SignalRanges, TurnRanges, AspectRanges, signalInRange};
+ghost use Rattle.signal.specs.Ranges.{longestGap, mostRaise, oldestAge, noSignal, CurveRanges, SignalRanges, TurnRanges, AspectRanges, signalInRange};
 ghost use Rattle.signal.specs.Target.{target};
 ghost use Rattle.signal.specs.Speed.{curveValue, signalSpeed};
-ghost use Rattle.signal.specs.NewCode.{gapMan, turned, beforeNext, gapNext, raiseByCode};
+ghost use Rattle.signal.specs.NewCode.{gapMan, turned, gapCodeNext, gapNext, raiseByCode};
 ghost use Rattle.signal.specs.Plus.{raiseNext};
 ghost use Rattle.signal.specs.Man.{manLowered};
 ghost use Rattle.signal.specs.Curve.{ageNow, aged, manStarted};
@@ -88,6 +88,26 @@ pub fn signal_in_range(s: Signal) -> bool
         & (s.curve.age <= OLDEST_AGE)
         & (s.curve.given <= 1)
         & (s.man <= reading::TOP_SPEED)
+}
+
+// No code, no curve, no MAN.
+pub fn no_signal() -> Signal
+    ensures { λ s. ⌜ s ≡ noSignal ⌝ }
+{
+    Signal {
+        codes: Codes {
+            last: 0,
+            before: 0,
+            gap: 0,
+            raise: 0,
+        },
+        curve: Curve {
+            start: 0,
+            age: 0,
+            given: 0,
+        },
+        man: 0,
+    }
 }
 
 fn target(card: Card, code: u8, raise: u8) -> u16
@@ -206,9 +226,9 @@ fn turned(card: Card, s: Signal, r: Record) -> Turn
 }
 
 // Step 2: k.
-fn before_next(s: Signal, r: Record) -> u8
+fn gap_code_next(s: Signal, r: Record) -> u8
     requires { ⌜ SignalRanges s ⌝ }
-    ensures { λ x. ⌜ (x ≡ beforeNext s r) × (x ≤ clear) ⌝ }
+    ensures { λ x. ⌜ (x ≡ gapCodeNext s r) × (x ≤ clear) ⌝ }
 {
     if r.code == s.codes.last {
         return s.codes.before;
@@ -349,7 +369,7 @@ pub fn aspect_now(card: Card, s: Signal, r: Record, k: Keys) -> Aspect
     ensures { λ a. ⌜ (a ≡ aspectNow card s r k) × AspectRanges a ⌝ }
 {
     let turn = turned(card, s, r);
-    let before = before_next(s, r);
+    let before = gap_code_next(s, r);
     let gap = gap_next(s, r);
     let raise = raise_next(s, r, k);
     let t = target(card, r.code, raise);

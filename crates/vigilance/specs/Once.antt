@@ -3,6 +3,7 @@ use Prim.Native.Nat.{ℕ, _+_}
 use mathlib.Core.Bool.{Bool, not, _&&_, _||_, cond}
 use lib.Dec.{ltb, leb, eqb}
 use Rattle.card.specs.declared.Card.{Card}
+use Rattle.card.specs.Card.{beyond}
 use Rattle.record.specs.declared.Keys.{Keys}
 use Rattle.signal.specs.declared.Curve.{Curve}
 use Rattle.signal.specs.Speed.{runs, curveValue}
@@ -16,7 +17,7 @@ lead card = cond (leb (card .set) 1000) 150 100
 
 -- D(a): v exceeds the curve's value at age a by more than the tolerance
 unfoldable pub exceeds : Card → Curve → ℕ → ℕ → ℕ → Bool
-exceeds card curve t v age = ltb (curveValue card curve t age + card .tolerance) v
+exceeds card curve t v age = beyond card (curveValue card curve t age) v
 
 -- u was above 0
 abbrev pub prompting : Once → Bool
@@ -43,7 +44,7 @@ module _ (card : Card) (curve : Curve) (begins : Bool) (t v : ℕ) (keys : Keys)
   unfoldable pub asksAtStart : Bool
   asksAtStart =
       not (prompting old) && runs curve && not asksAhead && begins && not (exceeds card curve t v (99 + lead card))
-      && ltb (t + card .tolerance) v
+      && beyond card t v
 
   unfoldable pub onceTicks : ℕ
   onceTicks = cond (onceStays keys old) (old .ticks + 1) (cond (asksAhead || asksAtStart) 1 0)

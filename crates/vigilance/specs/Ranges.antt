@@ -1,4 +1,4 @@
--- Ranges of what the desk holds of vigilance: as facts, and as the test that the code makes.
+-- What the desk holds of vigilance: none, and its ranges, as facts and as the test that the code makes.
 use Prim.Native.Nat.{ℕ, _≤_}
 use mathlib.Core.Bool.{Bool, _&&_}
 use lib.Dec.{leb}
@@ -19,6 +19,12 @@ longestCount = 599
 -- a cyclic prompt shows for the last 35 ticks of its cycle; u, 1 in the tick in which a one-time prompt comes, lapses when it comes to 35
 abbrev pub promptTicks : ℕ
 promptTicks = 35
+
+abbrev pub noWatch : Watch
+noWatch = record { kind = 0; ticks = 0 }
+
+abbrev pub noOnce : Once
+noOnce = record { ticks = 0; kind = 0 }
 
 pub record WatchRanges (w : Watch) : Type 0 where
   pub kind-most : w .kind ≤ increased

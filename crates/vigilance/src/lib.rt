@@ -3,7 +3,7 @@ ghost use mathlib.Core.Path.{_≡_};
 ghost use mathlib.Core.Bool.{not, _&&_};
 ghost use lib.Dec.{eqb, ltb};
 ghost use Prim.Native.Nat.{_+_, _≤_};
-ghost use Rattle.card.specs.Card.{mostCycle, CardRanges};
+ghost use Rattle.card.specs.Card.{mostCycle, CardRanges, beyond};
 ghost use Rattle.reading.specs.Speed.{topSpeed};
 ghost use Rattle.signal.specs.Ranges.{CurveRanges};
 ghost use Rattle.vigilance.specs.Ranges.{increased, WatchRanges, OnceRanges, OneTimeRanges, watchInRange, onceInRange};
@@ -194,7 +194,7 @@ fn asks_ahead(card: Card, curve: Curve, t: u16, v: u16) -> bool
 // Step 8, with a curve: whether the prompt at the curve's start is due.
 fn asks_at_start(card: Card, curve: Curve, begins: bool, t: u16, v: u16) -> bool
     requires { ⌜ CardRanges card × CurveRanges curve × (t ≤ topSpeed) ⌝ }
-    ensures { λ x. ⌜ x ≡ (begins && not (exceeds card curve t v (99 + lead card)) && ltb (t + card .tolerance) v) ⌝ }
+    ensures { λ x. ⌜ x ≡ (begins && not (exceeds card curve t v (99 + lead card)) && beyond card t v) ⌝ }
 {
     if begins {
         let lead = lead(card);

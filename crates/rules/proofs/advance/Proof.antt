@@ -14,7 +14,7 @@ ticked-requires c κs = search needs
 
 returns : tie.Need-returns
 unfolding advance
-returns c = (simp (← c .ticked .ensures .0, ← c .before .found .ensures .0, ← c .before .before .entered .ensures .0), search needs)
+returns c = (simp (← c .ticked .ensures .0, ← c .before .found .ensures, ← c .before .before .entered .ensures .0), search needs)
 
 pub advance-spec : {M : Type 1} → statement M
 advance-spec = tie.close (tie.spec entered-requires found-requires ticked-requires returns)

@@ -1,5 +1,7 @@
-use native.Mathlib.Omega.{arith}
+use Rattle.numbers.proofs.Alike.{and-so}
+use Rattle.rules.specs.State.{StateRanges}
 use Rattle.rules.specs.Mode.{entered}
+use Rattle.rules.proofs.Keeps.{entered-ranges}
 use borrow.Author.Tests.{eq-eqb, ne-eqb}
 use borrow.Author.Needs.{needs}
 use Rattle.rules.proofs.entered.Statement.{statement}
@@ -10,14 +12,22 @@ mode-now-requires c κs = search needs
 
 returns : tie.Need-returns
 unfolding entered
-returns c = (simp (eq-eqb _ _ (c .if2 .taken), eq-eqb _ _ (c .before .if1 .taken), ← c .before .before .before .mode-now .ensures .0), search needs)
+returns c =
+    let mode = c .before .before .before in
+    and-so StateRanges
+    (simp (eq-eqb _ _ (c .if2 .taken), eq-eqb _ _ (c .before .if1 .taken), ← mode .mode-now .ensures .0))
+    (entered-ranges _ _ (mode .before .pre .0) (mode .before .pre .1))
 
 no-signal-requires : tie.Need-no-signal-requires
 no-signal-requires c κs = search needs
 
 returns-2 : tie.Need-returns-2
 unfolding entered
-returns-2 c = (simp (← c .no-signal .ensures .0, ne-eqb _ _ (c .before .if2 .left), eq-eqb _ _ (c .before .before .if1 .taken), ← c .before .before .before .before .mode-now .ensures .0), search needs)
+returns-2 c =
+    let mode = c .before .before .before .before in
+    and-so StateRanges
+    (simp (← c .no-signal .ensures, ne-eqb _ _ (c .before .if2 .left), eq-eqb _ _ (c .before .before .if1 .taken), ← mode .mode-now .ensures .0))
+    (entered-ranges _ _ (mode .before .pre .0) (mode .before .pre .1))
 
 fresh-state-requires : tie.Need-fresh-state-requires
 fresh-state-requires c κs = search needs
@@ -25,9 +35,10 @@ fresh-state-requires c κs = search needs
 returns-3 : tie.Need-returns-3
 unfolding entered
 returns-3 c =
-    let blank = c .fresh-state .ensures in
-    let mode = c .before .before .before .mode-now in
-    (simp (blank, ne-eqb _ _ (c .before .if1 .left), ← mode .ensures .0), rw blank (omega (arith, mode .ensures .1, c .before .before .before .before .pre)))
+    let mode = c .before .before .before in
+    and-so StateRanges
+    (simp (c .fresh-state .ensures, ne-eqb _ _ (c .before .if1 .left), ← mode .mode-now .ensures .0))
+    (entered-ranges _ _ (mode .before .pre .0) (mode .before .pre .1))
 
 pub entered-spec : {M : Type 1} → statement M
 entered-spec =

@@ -1,6 +1,4 @@
-use Rattle.rules.specs.Tick.{found, permittedIn, kindIn, cyclicIn, oneTimeIn, movedIn, stoodIn}
-use Rattle.causes.specs.Held.{heldIn}
-use native.Mathlib.Omega.{arith}
+use Rattle.rules.specs.Tick.{permittedIn, kindIn, cyclicIn, oneTimeIn, movedIn, stoodIn}
 use borrow.Author.Needs.{needs}
 use Rattle.rules.proofs.found.Statement.{statement}
 use Rattle.rules.proofs.found.Tie as tie
@@ -26,26 +24,20 @@ asked-requires c κs = search needs
 driven-requires : tie.Need-driven-requires
 driven-requires c κs = search needs
 
+holds-nz5-requires : tie.Need-holds-nz5-requires
+holds-nz5-requires c κs = search needs
+
 parked-requires : tie.Need-parked-requires
 parked-requires c κs =
     let start = c .before .before .before .before .before .before .before .before .before .before .before .before in
-    (start .pre .0, omega (arith, start .pre .1))
+    (start .pre .0, start .pre .1 .standing-most)
 
 returns : tie.Need-returns
-unfolding found permittedIn kindIn cyclicIn oneTimeIn movedIn stoodIn heldIn
+unfolding permittedIn kindIn cyclicIn oneTimeIn movedIn stoodIn
 returns c =
     let c6 = c .before .before .before .before .before .before in
-    let c10 = c6 .before .before .before .before in (
-      simp (← c .parked .ensures .0, ← c .before .before .driven .ensures .0, ← c .before .before .before .asked .ensures .0, ← c6 .watched .ensures .0, ← c6 .before .before .watch-kind .ensures .0, ← c10 .permitted .ensures .0, ← c10 .before .aspect-in .ensures .0, ← c10 .before .before .keys-of .ensures),
-      record {
-        aspect = c10 .before .aspect-in .ensures .1;
-        permitted-most = c10 .permitted .ensures .1;
-        watch = c6 .watched .ensures .1;
-        once = c .before .before .before .asked .ensures .1;
-        wrongway-most = c .before .before .driven .ensures .1;
-        standing-most = c .parked .ensures .1;
-      },
-    )
+    let c10 = c6 .before .before .before .before in
+    simp (← c .parked .ensures .0, ← c .before .holds-nz5 .ensures, ← c .before .before .driven .ensures .0, ← c .before .before .before .asked .ensures .0, ← c6 .watched .ensures .0, ← c6 .before .before .watch-kind .ensures .0, ← c10 .permitted .ensures .0, ← c10 .before .aspect-in .ensures .0, ← c10 .before .before .keys-of .ensures)
 
 pub found-spec : {M : Type 1} → statement M
 found-spec =
@@ -58,5 +50,6 @@ found-spec =
     watched-requires
     asked-requires
     driven-requires
+    holds-nz5-requires
     parked-requires
     returns)

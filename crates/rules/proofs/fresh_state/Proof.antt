@@ -6,7 +6,7 @@ no-signal-requires : tie.Need-no-signal-requires
 no-signal-requires c κs = search needs
 
 returns : tie.Need-returns
-returns c = simp (← c .no-signal .ensures .0)
+returns c = simp (← c .no-signal .ensures)
 
 pub fresh-state-spec : {M : Type 1} → statement M
 fresh-state-spec = tie.close (tie.spec no-signal-requires returns)

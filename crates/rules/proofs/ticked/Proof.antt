@@ -1,4 +1,4 @@
-use Rattle.rules.specs.Tick.{ticked, answer}
+use Rattle.rules.specs.Tick.{stateNext, answerNow, ticked}
 use borrow.Author.Needs.{needs}
 use Rattle.rules.proofs.ticked.Statement.{statement}
 use Rattle.rules.proofs.ticked.Tie as tie
@@ -16,8 +16,10 @@ how-many-requires : tie.Need-how-many-requires
 how-many-requires c κs = search needs
 
 returns : tie.Need-returns
-unfolding ticked answer
-returns c = (simp (← c .how-many .ensures, ← c .before .lowest .ensures, ← c .before .before .marks .ensures, ← c .before .before .before .state-next .ensures .0), search needs)
+unfolding stateNext answerNow ticked
+returns c =
+    let next = c .before .before .before .before .before .before .before in
+    (rw (c .how-many .ensures, c .before .lowest .ensures, c .before .before .marks .ensures, next .state-next .ensures .0, next .before .pre .3), next .state-next .ensures .1)
 
 pub ticked-spec : {M : Type 1} → statement M
 ticked-spec =

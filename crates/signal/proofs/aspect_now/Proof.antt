@@ -10,8 +10,8 @@ use Rattle.signal.proofs.aspect_now.Tie as tie
 turned-requires : tie.Need-turned-requires
 turned-requires c κs = search needs
 
-before-next-requires : tie.Need-before-next-requires
-before-next-requires c κs = search needs
+gap-code-next-requires : tie.Need-gap-code-next-requires
+gap-code-next-requires c κs = search needs
 
 gap-next-requires : tie.Need-gap-next-requires
 gap-next-requires c κs = search needs
@@ -46,7 +46,7 @@ returns c =
     let man = ap (λ (x : Turn). x .man) turn in
     let course = ap (λ (x : Turn). x .curve) turn in
     let begins = ap (λ (x : Turn). x .begins) turn in (
-      simp (← c .signal-speed .ensures .0, ← c .before .before .man-started .ensures .0, ← starts, ← curve, ← c4 .man-lowered .ensures .0, ← c7 .target .ensures .0, ← c7 .before .raise-next .ensures .0, ← c7 .before .before .gap-next .ensures .0, ← c7 .before .before .before .before-next .ensures .0, ← man, ← course, ← begins),
+      simp (← c .signal-speed .ensures .0, ← c .before .before .man-started .ensures .0, ← starts, ← curve, ← c4 .man-lowered .ensures .0, ← c7 .target .ensures .0, ← c7 .before .raise-next .ensures .0, ← c7 .before .before .gap-next .ensures .0, ← c7 .before .before .before .gap-code-next .ensures .0, ← man, ← course, ← begins),
       record {
         signal = record {
           codes = omega (arith, c7 .before .before .before .before .before .pre);
@@ -63,7 +63,7 @@ aspect-now-spec =
     tie.close
     (tie.spec
     turned-requires
-    before-next-requires
+    gap-code-next-requires
     gap-next-requires
     raise-next-requires
     target-requires

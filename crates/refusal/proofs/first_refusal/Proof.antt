@@ -1,7 +1,7 @@
-use Rattle.record.specs.Sample.{firstRefusal}
+use Rattle.refusal.specs.Refusal.{firstRefusal}
 use borrow.Author.Tests.{eq-eqb, ne-eqb}
-use Rattle.record.proofs.first_refusal.Statement.{statement}
-use Rattle.record.proofs.first_refusal.Tie as tie
+use Rattle.refusal.proofs.first_refusal.Statement.{statement}
+use Rattle.refusal.proofs.first_refusal.Tie as tie
 
 returns : tie.Need-returns
 unfolding firstRefusal

@@ -1,24 +1,24 @@
-use Rattle.signal.specs.NewCode.{beforeNext}
+use Rattle.signal.specs.NewCode.{gapCodeNext}
 use borrow.Author.Tests.{eq-eqb, ne-eqb}
 use borrow.Author.Needs.{needs}
-use Rattle.signal.proofs.before_next.Statement.{statement}
-use Rattle.signal.proofs.before_next.Tie as tie
+use Rattle.signal.proofs.gap_code_next.Statement.{statement}
+use Rattle.signal.proofs.gap_code_next.Tie as tie
 
 returns : tie.Need-returns
-unfolding beforeNext
+unfolding gapCodeNext
 returns c = (simp (eq-eqb _ _ (c .if1 .taken)), search needs)
 
 returns-2 : tie.Need-returns-2
-unfolding beforeNext
+unfolding gapCodeNext
 returns-2 c = (simp (eq-eqb _ _ (c .if2 .taken), ne-eqb _ _ (c .before .before .if1 .left)), search needs)
 
 returns-3 : tie.Need-returns-3
-unfolding beforeNext
+unfolding gapCodeNext
 returns-3 c = (simp (eq-eqb _ _ (c .if3 .taken), ne-eqb _ _ (c .before .before .if2 .left), ne-eqb _ _ (c .before .before .before .before .if1 .left)), search needs)
 
 returns-4 : tie.Need-returns-4
-unfolding beforeNext
+unfolding gapCodeNext
 returns-4 c = (simp (ne-eqb _ _ (c .if3 .left), ne-eqb _ _ (c .before .before .if2 .left), ne-eqb _ _ (c .before .before .before .before .if1 .left)), search needs)
 
-pub before-next-spec : {M : Type 1} → statement M
-before-next-spec = tie.close (tie.spec returns returns-2 returns-3 returns-4)
+pub gap-code-next-spec : {M : Type 1} → statement M
+gap-code-next-spec = tie.close (tie.spec returns returns-2 returns-3 returns-4)

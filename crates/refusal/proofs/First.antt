@@ -1,0 +1,24 @@
+-- The first of two numbers of refusal: 0 where both are, else the one that is not.
+-- By the test of the first number. Assumes nothing.
+use Prim.Native.Nat.{ℕ}
+use mathlib.Core.Path.{_≡_, refl}
+use mathlib.Core.Bool.{Bool, true, false, cond}
+use borrow.Author.Tests.{eqb-true, eqb-false, ne-eqb}
+use lib.Dec.{eqb}
+use Rattle.refusal.specs.Refusal.{firstRefusal}
+
+pub both-zero : (a b : ℕ) → firstRefusal a b ≡ 0 → (a ≡ 0) × (b ≡ 0)
+unfolding firstRefusal
+both-zero a b h = go (eqb a 0) refl h
+  where
+    go : (t : Bool) → eqb a 0 ≡ t → cond t b a ≡ 0 → (a ≡ 0) × (b ≡ 0)
+    go true e z = (eqb-true a 0 e, z)
+    go false e z = absurd (eqb-false a 0 e z)
+
+pub first-zero : (b : ℕ) → firstRefusal 0 b ≡ b
+unfolding firstRefusal
+first-zero b = refl
+
+pub first-some : (a b : ℕ) → (a ≡ 0 → ⊥) → firstRefusal a b ≡ a
+unfolding firstRefusal
+first-some a b h = rw (ne-eqb a 0 h)

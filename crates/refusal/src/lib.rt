@@ -1,0 +1,36 @@
+// The numbers of refusal, as the paper's table has them; 0 is none.
+ghost use mathlib.Core.Path.{_≡_};
+ghost use Rattle.refusal.specs.Refusal.{firstRefusal};
+
+pub const BAD_SPEED: u8 = 1;
+
+pub const BAD_PRESSURE: u8 = 2;
+
+pub const BAD_FIELD: u8 = 3;
+
+pub const BAD_CARD: u8 = 4;
+
+pub const BAD_DESK: u8 = 5;
+
+pub const SHORT_JOURNAL: u8 = 6;
+
+pub const FULL_JOURNAL: u8 = 7;
+
+pub const BACK_TOO_FAR: u8 = 8;
+
+pub const BAD_RECORD: u8 = 9;
+
+pub const BAD_FILE: u8 = 10;
+
+pub const BAD_TICKS: u8 = 11;
+
+pub const SHORT_BUFFER: u8 = 12;
+
+pub const NO_SUCH_CARD: u8 = 13;
+
+// The first of two numbers that is one.
+pub fn first_refusal(first: u8, second: u8) -> u8
+    ensures { λ r. ⌜ r ≡ firstRefusal first second ⌝ }
+{
+    if first == 0 { second } else { first }
+}
