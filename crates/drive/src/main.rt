@@ -7,9 +7,9 @@ ghost use Rattle.script.specs.Call.{callMost};
 use desk::Desk;
 use libc::STDIN_FILENO;
 use libc::STDOUT_FILENO;
+use line::LINE_MOST;
 use script::CALL_MOST;
 use script::HEADER_WIDTH;
-use script::LINE_MOST;
 use script::Reply;
 
 const JOURNAL_MOST: usize = 65535;
@@ -25,7 +25,7 @@ fn print(reply: Reply) -> Next {
     match reply {
         Reply::Line(x) => {
             let mut line = [0u8; LINE_MOST];
-            let n = script::line_of(x, &mut line);
+            let n = line::line_of(x, &mut line);
             io::write_all(STDOUT_FILENO, &line[..n]);
             let desk = x.desk;
             Next::Call(desk)

@@ -6,9 +6,6 @@ use contract.Lifetimes.{Lfts}
 use Rattle.numbers.proofs.Alike.{alike}
 use Rattle.script.proofs.open.Reads as opening
 use Rattle.script.proofs.play.Reads as playing
-use Rattle.script.proofs.line_of.Reads as lining
-
--- both are the same third
 
 pub open-determined : (κs : Lfts 1) (a : _) (x y : _) (s t : _) → opening.Post κs a x s → opening.Post κs a y t → x ≡ y
 open-determined κs a x y s t p q = alike p q
@@ -16,7 +13,3 @@ open-determined κs a x y s t p q = alike p q
 -- `s .1 .1 .0` is the journal, the third parameter, at exit
 pub play-determined : (κs : Lfts 2) (a : _) (x y : _) (s t : _) → playing.Post κs a x s → playing.Post κs a y t → (x ≡ y) × (now (s .1 .1 .0) ≡ now (t .1 .1 .0))
 play-determined κs a x y s t p q = (alike (p .0) (q .0), alike (p .1) (q .1))
-
--- `s .1 .0` is the line's room, the second parameter, at exit
-pub line-determined : (κs : Lfts 1) (a : _) (x y : _) (s t : _) → lining.Post κs a x s → lining.Post κs a y t → (x ≡ y) × (now (s .1 .0) ≡ now (t .1 .0))
-line-determined κs a x y s t p q = (alike (p .0 .0) (q .0 .0), alike (p .1) (q .1))

@@ -1,11 +1,8 @@
-// A drive script: the header that opens a desk, the calls on it, and the line that is printed after each.
+// A drive script: the header that opens a desk, and the calls on it.
 ghost use mathlib.Core.Path.{_≡_};
-ghost use Prim.Native.Nat.{_+_, _*_, _≤_, _<_};
-ghost use lib.ListN.{length};
-ghost use Rattle.layout.specs.Layout.{written};
+ghost use Prim.Native.Nat.{_+_, _≤_};
 ghost use Rattle.script.specs.Sample.{u32At, sampleAt};
 ghost use Rattle.script.specs.Call.{journalLength, openReply, callMost, callWidth, playReply, playJournal};
-ghost use Rattle.script.specs.Line.{digitAt, numberMost, number, four, lineOf};
 use card::CARD_WIDTH;
 use desk::Desk;
 use desk::Outcome;
@@ -110,81 +107,4 @@ pub fn play(desk: Desk, call: &[u8], journal: &mut [u8]) -> Reply
         return Reply::Line(desk.restart());
     }
     Reply::BadScript
-}
-
-// The most bytes of a number: five digits and what stands behind them.
-const NUMBER_MOST: usize = 6;
-
-// The most bytes of a line.
-pub const LINE_MOST: usize = 8 * NUMBER_MOST;
-
-// In ASCII.
-const SPACE: u8 = 32;
-
-const LINE_END: u8 = 10;
-
-// Writes the digit of x at a weight, where there is one; answers the place after it.
-fn put_digit(out: &mut [u8], at: usize, x: u16, weight: u16) -> usize
-    requires { ⌜ (at < length (now out)) × (0 < weight) ⌝ }
-    ensures { λ r. ⌜ (r ≡ at + length (digitAt x weight)) × (r ≤ at + 1) ⌝ }
-    ensures { λ r. ⌜ now (out .exit) ≡ written (now (out .entry)) at (digitAt x weight) ⌝ }
-{
-    if x < weight {
-        return at;
-    }
-    out[at] = 48 + (x / weight % 10) as u8;
-    at + 1
-}
-
-// Writes x in decimal and `end` behind it; answers the place after it.
-fn put_number(out: &mut [u8], at: usize, x: u16, end: u8) -> usize
-    requires { ⌜ at + numberMost ≤ length (now out) ⌝ }
-    ensures { λ r. ⌜ (r ≡ at + length (number x end)) × (r ≤ at + numberMost) ⌝ }
-    ensures { λ r. ⌜ now (out .exit) ≡ written (now (out .entry)) at (number x end) ⌝ }
-{
-    let a = put_digit(out, at, x, 10000);
-    let b = put_digit(out, a, x, 1000);
-    let c = put_digit(out, b, x, 100);
-    let d = put_digit(out, c, x, 10);
-    out[d] = 48 + (x % 10) as u8;
-    out[d + 1] = end;
-    d + 2
-}
-
-// Writes four numbers, spaces between them and `end` behind the last; answers the place after it.
-fn put_four(out: &mut [u8], at: usize, a: u16, b: u16, c: u16, d: u16, end: u8) -> usize
-    requires { ⌜ at + 4 * numberMost ≤ length (now out) ⌝ }
-    ensures { λ r. ⌜ (r ≡ at + length (four a b c d end)) × (r ≤ at + 4 * numberMost) ⌝ }
-    ensures { λ r. ⌜ now (out .exit) ≡ written (now (out .entry)) at (four a b c d end) ⌝ }
-{
-    let second = put_number(out, at, a, SPACE);
-    let third = put_number(out, second, b, SPACE);
-    let fourth = put_number(out, third, c, SPACE);
-    put_number(out, fourth, d, end)
-}
-
-// Writes the line of an outcome; answers its length.
-pub fn line_of(x: Outcome, out: &mut [u8; LINE_MOST]) -> usize
-    ensures length { λ r. ⌜ (r ≡ length (lineOf x)) × (r ≤ length (now (out .exit))) ⌝ }
-    ensures text { λ r. ⌜ now (out .exit) ≡ written (now (out .entry)) 0 (lineOf x) ⌝ }
-{
-    let a = x.answer;
-    let half = put_four(
-        out,
-        0,
-        x.refusal as u16,
-        x.desk.n,
-        a.permitted,
-        a.target,
-        SPACE,
-    );
-    put_four(
-        out,
-        half,
-        a.marks as u16,
-        a.causes as u16,
-        a.lowest as u16,
-        a.held as u16,
-        LINE_END,
-    )
 }

@@ -1,8 +1,8 @@
-use Rattle.script.specs.Line.{four}
-use Rattle.script.proofs.Put.{put, put-four}
+use Rattle.line.specs.Line.{four}
+use Rattle.line.proofs.Put.{put, put-four}
 use borrow.Author.Needs.{needs}
-use Rattle.script.proofs.put_four.Statement.{statement}
-use Rattle.script.proofs.put_four.Tie as tie
+use Rattle.line.proofs.put_four.Statement.{statement}
+use Rattle.line.proofs.put_four.Tie as tie
 
 put-number-requires : tie.Need-put-number-requires
 put-number-requires c κs = search needs

@@ -1,11 +1,11 @@
 use Prim.Native.Nat.{_+_, _/_, _%_}
 use denote.Ref.{now}
 use borrow.Author.Tests.{lt-ltb, le-ltb}
-use Rattle.script.specs.Line.{digitAt}
-use Rattle.script.proofs.Put.{put-none, put-one}
+use Rattle.line.specs.Line.{digitAt}
+use Rattle.line.proofs.Put.{put-none, put-one}
 use borrow.Author.Needs.{needs}
-use Rattle.script.proofs.put_digit.Statement.{statement}
-use Rattle.script.proofs.put_digit.Tie as tie
+use Rattle.line.proofs.put_digit.Statement.{statement}
+use Rattle.line.proofs.put_digit.Tie as tie
 
 returns : tie.Need-returns
 unfolding digitAt

@@ -1,9 +1,9 @@
 use native.Mathlib.Nat.{zero-add}
-use Rattle.script.specs.Line.{lineOf}
-use Rattle.script.proofs.Put.{put, put-then}
+use Rattle.line.specs.Line.{lineOf}
+use Rattle.line.proofs.Put.{put, put-then}
 use borrow.Author.Needs.{needs}
-use Rattle.script.proofs.line_of.Statement.{statement}
-use Rattle.script.proofs.line_of.Tie as tie
+use Rattle.line.proofs.line_of.Statement.{statement}
+use Rattle.line.proofs.line_of.Tie as tie
 
 cast-put-four : tie.Need-cast-put-four
 cast-put-four c = search needs

@@ -1,11 +1,11 @@
 use native.Mathlib.Omega.{arith}
 use Prim.Native.Nat.{_+_, _%_}
 use lib.ListN.{length-set}
-use Rattle.script.specs.Line.{decimal, number}
-use Rattle.script.proofs.Put.{put, put-one, put-then, put-four}
+use Rattle.line.specs.Line.{decimal, number}
+use Rattle.line.proofs.Put.{put, put-one, put-then, put-four}
 use borrow.Author.Needs.{needs}
-use Rattle.script.proofs.put_number.Statement.{statement}
-use Rattle.script.proofs.put_number.Tie as tie
+use Rattle.line.proofs.put_number.Statement.{statement}
+use Rattle.line.proofs.put_number.Tie as tie
 
 put-digit-requires : tie.Need-put-digit-requires
 put-digit-requires c κs = search needs
