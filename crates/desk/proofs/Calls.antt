@@ -19,9 +19,9 @@ use Rattle.rules.specs.Tick.{advance}
 use Rattle.rules.specs.After.{after}
 use Rattle.rules.proofs.Ranges.{state-ranges, ranges-state}
 use Rattle.desk.specs.declared.Desk.{Desk}
-use Rattle.desk.specs.Journal.{mostTicks, capacity, records, allInRange}
+use Rattle.journal.specs.Journal.{mostTicks, capacity, records, allInRange}
 use Rattle.desk.specs.Desk.{DeskRanges, deskInRange}
-use Rattle.desk.proofs.Journal.{room}
+use Rattle.journal.proofs.Room.{room}
 use Rattle.desk.specs.Calls.{refused, accepted, tickRefusal, tickNumber, tickOutcome, tickJournal, backRefusal, backOutcome, restartOutcome}
 
 -- ---- ranges

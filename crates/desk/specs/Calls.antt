@@ -16,7 +16,7 @@ use Rattle.rules.specs.Tick.{noAnswer, advance}
 use Rattle.rules.specs.After.{after}
 use Rattle.desk.specs.declared.Desk.{Desk}
 use Rattle.desk.specs.declared.Outcome.{Outcome}
-use Rattle.desk.specs.Journal.{capacity, records, allInRange}
+use Rattle.journal.specs.Journal.{capacity, records, allInRange}
 use Rattle.desk.specs.Desk.{deskInRange, freshDesk, noDesk}
 
 -- a refusal: its number, the desk handed in, and an answer of zeros

@@ -1,13 +1,6 @@
 // The desk: opened with a card, then ticks, steps back and restarts. It goes in and comes back by value; the journal is lent.
 ghost use mathlib.Core.Path.{_≡_};
-ghost use mathlib.Core.Bool.{true};
-ghost use Prim.Native.Nat.{_*_, _≤_};
 ghost use lib.ListN.{length};
-ghost use Rattle.card.specs.Card.{CardRanges};
-ghost use Rattle.record.specs.Record.{recordWidth};
-ghost use Rattle.rules.specs.Tick.{noAnswer};
-ghost use Rattle.rules.specs.After.{after};
-ghost use Rattle.desk.specs.Journal.{capacity, records, allInRange};
 ghost use Rattle.desk.specs.Desk.{deskInRange, freshDesk, noDesk};
 ghost use Rattle.desk.specs.Calls.{refused, begun, accepted, openOutcome, tickRefusal, tickOutcome, tickJournal, backRefusal, backOutcome, restartOutcome};
 use card::Card;
@@ -31,13 +24,10 @@ pub struct Outcome {
     pub refusal: u8,
 }
 
-// Twelve minutes.
-pub const MOST_TICKS: u16 = 7200;
-
 fn desk_in_range(d: Desk) -> bool
     ensures { λ x. ⌜ x ≡ deskInRange d ⌝ }
 {
-    card::card_in_range(d.card) & (d.n <= MOST_TICKS) & rules::state_in_range(d.state)
+    card::card_in_range(d.card) & (d.n <= journal::MOST_TICKS) & rules::state_in_range(d.state)
 }
 
 fn fresh_desk(card: Card) -> Desk
@@ -48,19 +38,6 @@ fn fresh_desk(card: Card) -> Desk
         card: card,
         n: 0,
         state: state,
-    }
-}
-
-fn no_answer() -> Answer
-    ensures { λ a. ⌜ a ≡ noAnswer ⌝ }
-{
-    Answer {
-        permitted: 0,
-        target: 0,
-        marks: 0,
-        causes: 0,
-        lowest: 0,
-        held: 0,
     }
 }
 
@@ -90,7 +67,7 @@ fn no_desk() -> Desk
 fn refused(desk: Desk, number: u8) -> Outcome
     ensures { λ x. ⌜ x ≡ refused desk number ⌝ }
 {
-    let answer = no_answer();
+    let answer = rules::no_answer();
     Outcome {
         desk: desk,
         answer: answer,
@@ -103,7 +80,7 @@ fn begun(card: Card) -> Outcome
     ensures { λ x. ⌜ x ≡ begun card ⌝ }
 {
     let desk = fresh_desk(card);
-    let answer = no_answer();
+    let answer = rules::no_answer();
     Outcome {
         desk: desk,
         answer: answer,
@@ -127,17 +104,6 @@ fn accepted(card: Card, n: u16, a: Advanced) -> Outcome
     }
 }
 
-// How many ticks a journal of so many bytes takes.
-fn capacity(length: usize) -> usize
-    ensures { λ x. ⌜ x ≡ capacity length ⌝ }
-{
-    let most = MOST_TICKS as usize;
-    if length / RECORD_WIDTH < most {
-        return length / RECORD_WIDTH;
-    }
-    most
-}
-
 // The number of a tick's refusal: `sample` is that of its sample, `length` the journal's.
 fn tick_refusal(d: Desk, sample: u8, length: usize) -> u8
     ensures { λ x. ⌜ x ≡ tickRefusal d sample length ⌝ }
@@ -149,25 +115,10 @@ fn tick_refusal(d: Desk, sample: u8, length: usize) -> u8
     if length < RECORD_WIDTH * n {
         return refusal::SHORT_JOURNAL;
     }
-    if capacity(length) <= n {
+    if journal::capacity(length) <= n {
         return refusal::FULL_JOURNAL;
     }
     sample
-}
-
-// Whether each of the first m records is in range.
-fn all_in_range(journal: &[u8], m: usize) -> bool
-    requires { ⌜ recordWidth * m ≤ length (now journal) ⌝ }
-    ensures { λ x. ⌜ x ≡ allInRange (now (journal .entry)) m ⌝ }
-{
-    let mut i = 0;
-    while i < m {
-        if !record::record_in_range(record::record_at(journal, RECORD_WIDTH * i)) {
-            return false;
-        }
-        i += 1;
-    }
-    true
 }
 
 fn back_refusal(d: Desk, k: u32, journal: &[u8]) -> u8
@@ -183,32 +134,10 @@ fn back_refusal(d: Desk, k: u32, journal: &[u8]) -> u8
     if n < k {
         return refusal::BACK_TOO_FAR;
     }
-    if !all_in_range(journal, (n - k) as usize) {
+    if !journal::all_in_range(journal, (n - k) as usize) {
         return refusal::BAD_RECORD;
     }
     0
-}
-
-// A fresh state fed the journal's first m records, with the last answer.
-fn rebuilt(card: Card, journal: &[u8], m: usize) -> Advanced
-    requires { ⌜ CardRanges card ⌝ }
-    requires { ⌜ recordWidth * m ≤ length (now journal) ⌝ }
-    requires { ⌜ allInRange (now journal) m ≡ true ⌝ }
-    ensures { λ x. ⌜ x ≡ after card (records (now (journal .entry))) m ⌝ }
-{
-    let state = rules::fresh_state();
-    let answer = no_answer();
-    let mut last = Advanced {
-        state: state,
-        answer: answer,
-    };
-    let mut i = 0;
-    while i < m {
-        let s = last.state;
-        last = rules::advance(card, s, record::record_at(journal, RECORD_WIDTH * i));
-        i += 1;
-    }
-    last
 }
 
 impl Desk {
@@ -247,7 +176,7 @@ impl Desk {
         }
         let card = self.card;
         let m = self.n - (k as u16);
-        accepted(card, m, rebuilt(card, journal, m as usize))
+        accepted(card, m, journal::rebuilt(card, journal, m as usize))
     }
 
     pub fn restart(self) -> Outcome

@@ -16,7 +16,7 @@ use Rattle.rules.specs.After.{after}
 use Rattle.rules.proofs.After.{after-same}
 use Rattle.desk.specs.declared.Desk.{Desk}
 use Rattle.desk.specs.declared.Outcome.{Outcome}
-use Rattle.desk.specs.Journal.{records}
+use Rattle.journal.specs.Journal.{records}
 use Rattle.desk.specs.Calls.{backRefusal, backOutcome}
 use Rattle.desk.proofs.Calls.{back-yes}
 use Rattle.exercise.specs.Answers.{answerWidth, answerBytes, answers}

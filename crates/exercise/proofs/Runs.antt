@@ -15,7 +15,7 @@ use Rattle.record.specs.declared.Record.{Record}
 use Rattle.record.specs.Record.{recordInRange}
 use Rattle.refusal.specs.Refusal.{badTicks, badRecord, firstRefusal}
 use Rattle.refusal.proofs.First.{both-zero, first-zero, first-some}
-use Rattle.desk.specs.Journal.{mostTicks}
+use Rattle.journal.specs.Journal.{mostTicks}
 use Rattle.exercise.specs.File.{runCount, runTicks, runRecord}
 use Rattle.exercise.specs.Runs.{ticksTo, runFault, runsRefusal, tickRecord}
 

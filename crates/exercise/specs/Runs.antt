@@ -6,7 +6,7 @@ use lib.Dec.{leb, ltb, eqb}
 use Rattle.record.specs.declared.Record.{Record}
 use Rattle.record.specs.Record.{recordInRange, noRecord}
 use Rattle.refusal.specs.Refusal.{badTicks, badRecord, firstRefusal}
-use Rattle.desk.specs.Journal.{mostTicks}
+use Rattle.journal.specs.Journal.{mostTicks}
 use Rattle.exercise.specs.File.{runTicks, runRecord}
 
 -- the ticks of the first j runs

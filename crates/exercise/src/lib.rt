@@ -4,7 +4,7 @@ ghost use Prim.Native.Nat.{_+_, _*_, _≤_, _<_};
 ghost use lib.ListN.{length};
 ghost use Rattle.layout.specs.Layout.{written};
 ghost use Rattle.card.specs.Card.{CardRanges};
-ghost use Rattle.desk.specs.Journal.{mostTicks};
+ghost use Rattle.journal.specs.Journal.{mostTicks};
 ghost use Rattle.exercise.specs.File.{headerGood, cardsInRange, runCount, runsFrom, runTicks, runRecord};
 ghost use Rattle.exercise.specs.Runs.{runFault, runsRefusal};
 ghost use Rattle.exercise.specs.Answers.{answerWidth, answerBytes, answers};
@@ -124,7 +124,7 @@ fn run_fault(before: usize, ticks: usize, r: Record) -> u8
     requires { ⌜ (before ≤ mostTicks) × (ticks ≤ 65535) ⌝ }
     ensures { λ x. ⌜ x ≡ runFault before ticks r ⌝ }
 {
-    let most = desk::MOST_TICKS as usize;
+    let most = journal::MOST_TICKS as usize;
     if (ticks == 0) | (most < before + ticks) {
         return refusal::BAD_TICKS;
     }

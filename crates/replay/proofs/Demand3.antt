@@ -27,11 +27,11 @@ use Rattle.rules.specs.After.{after}
 use Rattle.rules.proofs.After.{after-next, after-same, after-ranges}
 use Rattle.desk.specs.declared.Desk.{Desk}
 use Rattle.desk.specs.declared.Outcome.{Outcome}
-use Rattle.desk.specs.Journal.{capacity, records, allInRange}
+use Rattle.journal.specs.Journal.{capacity, records, allInRange}
 use Rattle.desk.specs.Desk.{deskInRange, freshDesk}
 use Rattle.desk.specs.Calls.{refused, accepted, openOutcome, tickNumber, tickOutcome, tickJournal, backRefusal, backOutcome, restartOutcome}
 use Rattle.numbers.proofs.All.{each-all}
-use Rattle.desk.proofs.Journal.{room}
+use Rattle.journal.proofs.Room.{room}
 use Rattle.desk.proofs.Calls as Calls
 use Rattle.replay.specs.Demand3.{Call, Tick, Back, Restart, Drive, outcome, journalAfter, survivors, call, calls, outcomes, opened, Same, Demand3, LastAnswer}
 

@@ -11,7 +11,7 @@ use Rattle.record.specs.declared.Sample.{Sample}
 use Rattle.record.specs.Sample.{sampleRefusal}
 use Rattle.desk.specs.declared.Desk.{Desk}
 use Rattle.desk.specs.declared.Outcome.{Outcome}
-use Rattle.desk.specs.Journal.{capacity}
+use Rattle.journal.specs.Journal.{capacity}
 use Rattle.desk.specs.Calls.{openOutcome, tickOutcome, tickJournal, backOutcome, restartOutcome}
 
 pub data Call : Type 0 where

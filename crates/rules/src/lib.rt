@@ -9,7 +9,7 @@ ghost use Rattle.signal.specs.Ranges.{AspectRanges};
 ghost use Rattle.rules.specs.State.{freshState, StateRanges, stateInRange};
 ghost use Rattle.rules.specs.Mode.{modeNow, entered};
 ghost use Rattle.rules.specs.Permitted.{ceiling, permitted};
-ghost use Rattle.rules.specs.Tick.{keysIn, aspectIn, triggersIn, stateNext, marks, ticked, advance};
+ghost use Rattle.rules.specs.Tick.{noAnswer, keysIn, aspectIn, triggersIn, stateNext, marks, ticked, advance};
 ghost use Rattle.rules.specs.Found.{found};
 use card::Card;
 use causes::Causes;
@@ -67,6 +67,19 @@ pub struct Answer {
 pub struct Advanced {
     pub state: State,
     pub answer: Answer,
+}
+
+pub fn no_answer() -> Answer
+    ensures { λ a. ⌜ a ≡ noAnswer ⌝ }
+{
+    Answer {
+        permitted: 0,
+        target: 0,
+        marks: 0,
+        causes: 0,
+        lowest: 0,
+        held: 0,
+    }
 }
 
 // All three buttons.

@@ -12,7 +12,7 @@ use Rattle.record.proofs.Refusal.{sample-in-range}
 use Rattle.rules.specs.declared.Advanced.{Advanced}
 use Rattle.rules.specs.Tick.{advance}
 use Rattle.desk.specs.Calls.{refused, accepted, tickRefusal, tickNumber}
-use Rattle.desk.proofs.Journal.{room}
+use Rattle.journal.proofs.Room.{room}
 use Rattle.desk.proofs.Calls.{tick-taken, desk-ranges, tick-yes, tick-no}
 use Rattle.desk.proofs.Desk.tick.Statement.{statement}
 use Rattle.desk.proofs.Desk.tick.Tie as tie

@@ -3,7 +3,7 @@
 use Prim.Native.Nat.{ℕ, _+_, _*_, _≤_, _<_}
 use native.Mathlib.Omega.{arith}
 use Rattle.record.specs.Record.{recordWidth}
-use Rattle.desk.specs.Journal.{mostTicks, capacity}
+use Rattle.journal.specs.Journal.{mostTicks, capacity}
 
 pub room : (n length : ℕ) → n < capacity length → (n < mostTicks) × (recordWidth * n + recordWidth ≤ length)
 unfolding capacity

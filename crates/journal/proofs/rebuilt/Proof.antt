@@ -12,10 +12,10 @@ use Rattle.rules.specs.Tick.{advance}
 use Rattle.rules.specs.After.{after}
 use Rattle.rules.proofs.Ranges.{fresh-ranges}
 use Rattle.rules.proofs.After.{after-next}
-use Rattle.desk.specs.Journal.{records}
+use Rattle.journal.specs.Journal.{records}
 use Rattle.numbers.proofs.All.{all-each}
-use Rattle.desk.proofs.rebuilt.Statement.{statement}
-use Rattle.desk.proofs.rebuilt.Tie as tie
+use Rattle.journal.proofs.rebuilt.Statement.{statement}
+use Rattle.journal.proofs.rebuilt.Tie as tie
 
 -- one record more
 again : (card : Card) (H : ℕ → Record) (i : ℕ) (last next : Advanced) (r : Record)

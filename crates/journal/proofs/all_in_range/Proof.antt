@@ -5,10 +5,10 @@ use native.Mathlib.Omega.{arith}
 use borrow.Author.Needs.{needs}
 use borrow.Author.Tests.{not-true, not-false}
 use Rattle.record.specs.Record.{recordInRange}
-use Rattle.desk.specs.Journal.{records, allInRange}
+use Rattle.journal.specs.Journal.{records, allInRange}
 use Rattle.numbers.proofs.All.{all-none, all-more, all-not}
-use Rattle.desk.proofs.all_in_range.Statement.{statement}
-use Rattle.desk.proofs.all_in_range.Tie as tie
+use Rattle.journal.proofs.all_in_range.Statement.{statement}
+use Rattle.journal.proofs.all_in_range.Tie as tie
 
 abbrev Inv-loop : tie.InvT-loop
 Inv-loop journal m i₀ i = (i ≤ m) × (allInRange journal i ≡ true)

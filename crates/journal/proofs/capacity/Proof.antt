@@ -1,8 +1,8 @@
-use Rattle.desk.specs.Journal.{capacity}
+use Rattle.journal.specs.Journal.{capacity}
 use native.Mathlib.Omega.{arith}
 use borrow.Author.Needs.{needs}
-use Rattle.desk.proofs.capacity.Statement.{statement}
-use Rattle.desk.proofs.capacity.Tie as tie
+use Rattle.journal.proofs.capacity.Statement.{statement}
+use Rattle.journal.proofs.capacity.Tie as tie
 
 cast-most : tie.Need-cast-most
 cast-most c = search needs
