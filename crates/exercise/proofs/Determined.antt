@@ -1,14 +1,10 @@
--- Each call's contract determines its result and every lent byte: two outcomes that satisfy it are equal.
+-- The contract of `run` determines its result and every lent byte: two outcomes that satisfy it are equal.
 -- `Post` is the contract as the check reads it off the source, so a contract that says less breaks these lines.
 use mathlib.Core.Path.{_≡_}
 use denote.Ref.{now}
 use contract.Lifetimes.{Lfts}
 use Rattle.numbers.proofs.Alike.{alike}
-use Rattle.exercise.proofs.read.Reads as reading
 use Rattle.exercise.proofs.run.Reads as running
-
-pub read-determined : (κs : Lfts 1) (a : _) (x y : _) (s t : _) → reading.Post κs a x s → reading.Post κs a y t → x ≡ y
-read-determined κs a x y s t p q = alike p q
 
 -- `s .1 .1 .0` is the buffer, the third parameter, at exit
 pub run-determined : (κs : Lfts 2) (a : _) (x y : _) (s t : _) → running.Post κs a x s → running.Post κs a y t → (x ≡ y) × (now (s .1 .1 .0) ≡ now (t .1 .1 .0))

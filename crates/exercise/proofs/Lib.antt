@@ -1,5 +1,4 @@
-pub mod Runs
-pub mod Calls
+pub mod Outcome
 pub mod Buffer
 pub mod Determined
 pub mod Rebuilt

@@ -1,4 +1,2 @@
-pub mod File
-pub mod Runs
 pub mod Answers
-pub mod Calls
+pub mod Run

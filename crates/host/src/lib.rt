@@ -1,7 +1,7 @@
 // The call that a host program links: host/foldharbor.h declares it for C and C++.
 ghost use mathlib.Core.Path.{_≡_};
 ghost use lib.ListN.{length};
-ghost use Rattle.exercise.specs.Calls.{runOutcome, runBuffer};
+ghost use Rattle.exercise.specs.Run.{runOutcome, runBuffer};
 ghost use Rattle.host.specs.Host.{hostNumber};
 
 // A refusal is this plus its number.

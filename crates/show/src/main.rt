@@ -35,14 +35,14 @@ fn show_card(file: &[u8], card: u16, runs: u16) {
     let mut ticks: u32 = 0;
     let mut j: u16 = 0;
     while j < runs {
-        ticks += exercise::run_length(file, j) as u32;
+        ticks += file::run_length(file, j) as u32;
         print_answer(&answers, ticks);
         j += 1;
     }
 }
 
 fn show(file: &[u8]) {
-    let counts = exercise::read(file);
+    let counts = file::read(file);
     if counts.refusal != 0 {
         print(b"refused ", counts.refusal as u32, b"\n");
         return;

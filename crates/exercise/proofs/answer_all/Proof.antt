@@ -16,11 +16,11 @@ use Rattle.rules.specs.Tick.{advance}
 use Rattle.rules.specs.After.{after}
 use Rattle.rules.proofs.Ranges.{fresh-ranges}
 use Rattle.rules.proofs.After.{after-next}
-use Rattle.exercise.specs.File.{runCount}
-use Rattle.exercise.specs.Runs.{ticksTo}
+use Rattle.file.specs.File.{runCount}
+use Rattle.file.specs.Runs.{ticksTo}
 use Rattle.exercise.specs.Answers.{answerWidth, answerBytes, answers}
-use Rattle.exercise.specs.Calls.{drive}
-use Rattle.exercise.proofs.Runs.{RunDriven, run-driven}
+use Rattle.file.specs.Read.{drive}
+use Rattle.file.proofs.Runs.{RunDriven, run-driven}
 use Rattle.exercise.proofs.Buffer.{one-more}
 use Rattle.exercise.proofs.answer_all.Statement.{statement}
 use Rattle.exercise.proofs.answer_all.Tie as tie

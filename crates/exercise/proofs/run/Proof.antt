@@ -2,11 +2,11 @@ use mathlib.Core.Path.{sym, ap, _∙_}
 use borrow.Author.Needs.{needs}
 use Rattle.layout.specs.Layout.{written}
 use Rattle.card.specs.declared.Card.{Card}
-use Rattle.exercise.specs.declared.Ran.{Ran}
-use Rattle.exercise.specs.File.{cardIn}
+use Rattle.file.specs.declared.Ran.{Ran}
+use Rattle.file.specs.File.{cardIn}
 use Rattle.exercise.specs.Answers.{answers}
-use Rattle.exercise.specs.Calls.{tickCount, drive}
-use Rattle.exercise.proofs.Calls.{run-number, run-taken, buffer-yes, buffer-no}
+use Rattle.file.specs.Read.{tickCount, drive}
+use Rattle.exercise.proofs.Outcome.{run-number, run-taken, buffer-yes, buffer-no}
 use Rattle.exercise.proofs.run.Statement.{statement}
 use Rattle.exercise.proofs.run.Tie as tie
 

@@ -2,8 +2,9 @@ use Prim.Native.Nat.{ℕ, _*_, _≤_, _<_}
 use mathlib.Core.Path.{_≡_, sym, ap, _∙_}
 use native.Mathlib.Omega.{arith}
 use borrow.Author.Needs.{needs}
-use Rattle.exercise.specs.declared.Ran.{Ran}
-use Rattle.exercise.proofs.Calls.{runs-number, runs-yes, runs-no, run-by-cards, run-by-low, run-by-high, run-by-runs, run-by-room, run-by-none}
+use Rattle.file.specs.declared.Ran.{Ran}
+use Rattle.file.proofs.Reader.{runs-number, runs-yes, runs-no}
+use Rattle.exercise.proofs.Outcome.{run-by-cards, run-by-low, run-by-high, run-by-runs, run-by-room, run-by-none}
 use Rattle.exercise.proofs.run_outcome.Statement.{statement}
 use Rattle.exercise.proofs.run_outcome.Tie as tie
 

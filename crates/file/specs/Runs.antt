@@ -7,7 +7,7 @@ use Rattle.record.specs.declared.Record.{Record}
 use Rattle.record.specs.Record.{recordInRange, noRecord}
 use Rattle.refusal.specs.Refusal.{badTicks, badRecord, firstRefusal}
 use Rattle.journal.specs.Journal.{mostTicks}
-use Rattle.exercise.specs.File.{runTicks, runRecord}
+use Rattle.file.specs.File.{runTicks, runRecord}
 
 -- the ticks of the first j runs
 unfoldable pub ticksTo : List ℕ → ℕ → ℕ

@@ -4,12 +4,12 @@ use native.Mathlib.Omega.{arith}
 use borrow.Author.Needs.{needs}
 use Rattle.record.specs.declared.Record.{Record}
 use Rattle.journal.specs.Journal.{mostTicks}
-use Rattle.exercise.specs.File.{runCount, runTicks, runRecord}
-use Rattle.exercise.specs.Runs.{ticksTo, runFault, runsRefusal}
-use Rattle.exercise.proofs.Runs.{fault-none, fault-is, ticks-next, runs-next, runs-first}
-use Rattle.exercise.proofs.Calls.{runs-stopped, runs-done}
-use Rattle.exercise.proofs.runs_read.Statement.{statement}
-use Rattle.exercise.proofs.runs_read.Tie as tie
+use Rattle.file.specs.File.{runCount, runTicks, runRecord}
+use Rattle.file.specs.Runs.{ticksTo, runFault, runsRefusal}
+use Rattle.file.proofs.Runs.{fault-none, fault-is, ticks-next, runs-next, runs-first}
+use Rattle.file.proofs.Reader.{runs-stopped, runs-done}
+use Rattle.file.proofs.runs_read.Statement.{statement}
+use Rattle.file.proofs.runs_read.Tie as tie
 
 abbrev Inv-loop : tie.InvT-loop
 Inv-loop file runs sum₀ j₀ sum j = (j ≤ runs) × (sum ≡ ticksTo file j) × (sum ≤ mostTicks) × (runsRefusal file j ≡ 0)

@@ -1,7 +1,7 @@
-use Rattle.exercise.specs.Runs.{runFault}
+use Rattle.file.specs.Runs.{runFault}
 use borrow.Author.Needs.{needs}
-use Rattle.exercise.proofs.run_fault.Statement.{statement}
-use Rattle.exercise.proofs.run_fault.Tie as tie
+use Rattle.file.proofs.run_fault.Statement.{statement}
+use Rattle.file.proofs.run_fault.Tie as tie
 
 cast-most : tie.Need-cast-most
 cast-most c = search needs

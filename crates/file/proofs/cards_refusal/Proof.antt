@@ -1,7 +1,7 @@
-use Rattle.exercise.specs.Calls.{cardsRefusal}
+use Rattle.file.specs.Read.{cardsRefusal}
 use borrow.Author.Needs.{needs}
-use Rattle.exercise.proofs.cards_refusal.Statement.{statement}
-use Rattle.exercise.proofs.cards_refusal.Tie as tie
+use Rattle.file.proofs.cards_refusal.Statement.{statement}
+use Rattle.file.proofs.cards_refusal.Tie as tie
 
 header-good-requires : tie.Need-header-good-requires
 header-good-requires c κs = search needs

@@ -1,7 +1,7 @@
-use Rattle.exercise.specs.File.{headerGood}
+use Rattle.file.specs.File.{headerGood}
 use borrow.Author.Needs.{needs}
-use Rattle.exercise.proofs.header_good.Statement.{statement}
-use Rattle.exercise.proofs.header_good.Tie as tie
+use Rattle.file.proofs.header_good.Statement.{statement}
+use Rattle.file.proofs.header_good.Tie as tie
 
 u16-at-requires : tie.Need-u16-at-requires
 u16-at-requires c κs = search needs

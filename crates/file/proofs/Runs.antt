@@ -16,8 +16,8 @@ use Rattle.record.specs.Record.{recordInRange}
 use Rattle.refusal.specs.Refusal.{badTicks, badRecord, firstRefusal}
 use Rattle.refusal.proofs.First.{both-zero, first-zero, first-some}
 use Rattle.journal.specs.Journal.{mostTicks}
-use Rattle.exercise.specs.File.{runCount, runTicks, runRecord}
-use Rattle.exercise.specs.Runs.{ticksTo, runFault, runsRefusal, tickRecord}
+use Rattle.file.specs.File.{runCount, runTicks, runRecord}
+use Rattle.file.specs.Runs.{ticksTo, runFault, runsRefusal, tickRecord}
 
 -- ---- a run
 pub record RunGood (before ticks : ℕ) (r : Record) : Type 0 where

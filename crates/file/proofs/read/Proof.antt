@@ -1,10 +1,10 @@
 use Prim.Native.Nat.{ℕ}
 use mathlib.Core.Path.{_≡_, sym, ap, _∙_}
 use borrow.Author.Needs.{needs}
-use Rattle.exercise.specs.declared.Ran.{Ran}
-use Rattle.exercise.proofs.Calls.{runs-number, runs-yes, read-by-cards, read-by-runs, read-by-none}
-use Rattle.exercise.proofs.read.Statement.{statement}
-use Rattle.exercise.proofs.read.Tie as tie
+use Rattle.file.specs.declared.Ran.{Ran}
+use Rattle.file.proofs.Reader.{runs-number, runs-yes, read-by-cards, read-by-runs, read-by-none}
+use Rattle.file.proofs.read.Statement.{statement}
+use Rattle.file.proofs.read.Tie as tie
 
 cards-refusal-requires : tie.Need-cards-refusal-requires
 cards-refusal-requires c κs = search needs

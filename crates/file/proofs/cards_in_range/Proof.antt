@@ -6,9 +6,9 @@ use borrow.Author.Needs.{needs}
 use borrow.Author.Tests.{not-true, not-false}
 use Rattle.numbers.proofs.All.{all-none, all-more, all-not}
 use Rattle.card.specs.Card.{cardInRange}
-use Rattle.exercise.specs.File.{cardIn, cardsInRange}
-use Rattle.exercise.proofs.cards_in_range.Statement.{statement}
-use Rattle.exercise.proofs.cards_in_range.Tie as tie
+use Rattle.file.specs.File.{cardIn, cardsInRange}
+use Rattle.file.proofs.cards_in_range.Statement.{statement}
+use Rattle.file.proofs.cards_in_range.Tie as tie
 
 abbrev Inv-loop : tie.InvT-loop
 Inv-loop file cards i₀ i = (i ≤ cards) × (cardsInRange file i ≡ true)
