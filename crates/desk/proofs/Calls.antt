@@ -12,14 +12,14 @@ use Rattle.numbers.proofs.Tests.{and-iff, leb-iff}
 use Rattle.refusal.specs.Refusal.{badDesk, shortJournal, fullJournal, backTooFar, badRecord}
 use Rattle.card.proofs.Ranges.{card-ranges, ranges-card}
 use Rattle.record.specs.declared.Sample.{Sample}
-use Rattle.record.specs.Record.{recordWidth, putRecord}
+use Rattle.record.specs.Record.{recordWidth, putRecord, mostTicks}
 use Rattle.record.specs.Sample.{sampleRefusal, sampleRecord}
 use Rattle.record.proofs.Bytes.{put-fits}
 use Rattle.rules.specs.Tick.{advance}
 use Rattle.rules.specs.After.{after}
-use Rattle.rules.proofs.Ranges.{state-ranges, ranges-state}
+use Rattle.state.proofs.Ranges.{state-ranges, ranges-state}
 use Rattle.desk.specs.declared.Desk.{Desk}
-use Rattle.journal.specs.Journal.{mostTicks, capacity, records, allInRange}
+use Rattle.journal.specs.Journal.{capacity, records, allInRange}
 use Rattle.desk.specs.Desk.{DeskRanges, deskInRange}
 use Rattle.journal.proofs.Room.{room}
 use Rattle.desk.specs.Calls.{refused, accepted, tickRefusal, tickNumber, tickOutcome, tickJournal, backRefusal, backOutcome, restartOutcome}

@@ -4,9 +4,9 @@ use mathlib.Core.Bool.{Bool, _&&_}
 use lib.Dec.{leb}
 use Rattle.card.specs.declared.Card.{Card}
 use Rattle.card.specs.Card.{CardRanges, cardInRange, noCard}
-use Rattle.rules.specs.State.{only, freshState, StateRanges, stateInRange}
+use Rattle.state.specs.State.{only, freshState, StateRanges, stateInRange}
 use Rattle.desk.specs.declared.Desk.{Desk}
-use Rattle.journal.specs.Journal.{mostTicks}
+use Rattle.record.specs.Record.{mostTicks}
 
 pub record DeskRanges (d : Desk) : Type 0 where
   pub card : CardRanges (d .card)

@@ -8,7 +8,7 @@ use record::RECORD_WIDTH;
 use record::Sample;
 use rules::Advanced;
 use rules::Answer;
-use rules::State;
+use state::State;
 
 pub struct Desk {
     pub card: Card,
@@ -27,13 +27,13 @@ pub struct Outcome {
 fn desk_in_range(d: Desk) -> bool
     ensures { λ x. ⌜ x ≡ deskInRange d ⌝ }
 {
-    card::card_in_range(d.card) & (d.n <= journal::MOST_TICKS) & rules::state_in_range(d.state)
+    card::card_in_range(d.card) & (d.n <= record::MOST_TICKS) & state::state_in_range(d.state)
 }
 
 fn fresh_desk(card: Card) -> Desk
     ensures { λ d. ⌜ d ≡ freshDesk card ⌝ }
 {
-    let state = rules::fresh_state();
+    let state = state::fresh_state();
     Desk {
         card: card,
         n: 0,
@@ -44,7 +44,7 @@ fn fresh_desk(card: Card) -> Desk
 fn no_desk() -> Desk
     ensures { λ d. ⌜ d ≡ noDesk ⌝ }
 {
-    let mut state = rules::fresh_state();
+    let mut state = state::fresh_state();
     state.mode = 0;
     Desk {
         card: Card {

@@ -21,7 +21,7 @@ use Rattle.causes.specs.Held.{heldIn, maskOf, also, listed, firstOr, lowest, ho
 use Rattle.causes.specs.Direction.{agrees, wrongwayNow, wrongwayTriggers}
 use Rattle.causes.specs.Standing.{counted, standingNow, standingTriggers, standingSounds}
 use Rattle.causes.specs.Keeping.{released, kept, wrongwayLeft}
-use Rattle.rules.specs.Mode.{modeNow, entered}
+use Rattle.state.specs.Mode.{modeNow, entered}
 use Rattle.rules.specs.Permitted.{ceiling, permitted}
 use Rattle.rules.specs.Tick.{aspectIn, permittedIn, kindIn, cyclicIn, oneTimeIn, movedIn, stoodIn, triggersIn, releasesIn, heldNext, wrongwayNext, marks, stateNext, answerNow, ticked, advance}
 use Rattle.rules.specs.After.{after}

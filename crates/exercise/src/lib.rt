@@ -76,7 +76,7 @@ fn answer_all(file: &[u8], card: Card, buffer: &mut [u8])
     ensures { λ _. ⌜ now (buffer .exit) ≡ written (now (buffer .entry)) 0 (answers card (drive (now (file .entry))) (tickCount (now (file .entry)))) ⌝ }
 {
     let runs = file::run_count(file);
-    let mut s = rules::fresh_state();
+    let mut s = state::fresh_state();
     let mut i = 0;
     let mut j = 0;
     while j < runs {

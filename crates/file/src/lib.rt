@@ -1,7 +1,7 @@
 // The exercise file of a school: its header, its cards, its runs, and the reader.
 ghost use mathlib.Core.Path.{_≡_};
 ghost use Prim.Native.Nat.{_≤_};
-ghost use Rattle.journal.specs.Journal.{mostTicks};
+ghost use Rattle.record.specs.Record.{mostTicks};
 ghost use Rattle.file.specs.File.{headerGood, cardsInRange, runCount, runsFrom, runTicks, runRecord};
 ghost use Rattle.file.specs.Runs.{runFault};
 ghost use Rattle.file.specs.Read.{runsRead, cardsRefusal, readOutcome};
@@ -116,7 +116,7 @@ fn run_fault(before: usize, ticks: usize, r: Record) -> u8
     requires { ⌜ (before ≤ mostTicks) × (ticks ≤ 65535) ⌝ }
     ensures { λ x. ⌜ x ≡ runFault before ticks r ⌝ }
 {
-    let most = journal::MOST_TICKS as usize;
+    let most = record::MOST_TICKS as usize;
     if (ticks == 0) | (most < before + ticks) {
         return refusal::BAD_TICKS;
     }

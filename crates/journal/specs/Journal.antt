@@ -4,10 +4,7 @@ use mathlib.Core.List.{List}
 use mathlib.Core.Bool.{Bool}
 use Rattle.numbers.specs.All.{allBelow}
 use Rattle.record.specs.declared.Record.{Record}
-use Rattle.record.specs.Record.{recordWidth, recordAt, recordInRange}
-
-abbrev pub mostTicks : ℕ
-mostTicks = 7200
+use Rattle.record.specs.Record.{recordWidth, recordAt, recordInRange, mostTicks}
 
 -- the lesser of 7,200 and journal length / 8, whole: the length in bytes
 unfoldable pub capacity : ℕ → ℕ

@@ -11,14 +11,11 @@ use card::Card;
 use record::RECORD_WIDTH;
 use rules::Advanced;
 
-// Twelve minutes.
-pub const MOST_TICKS: u16 = 7200;
-
 // How many ticks a journal of so many bytes takes.
 pub fn capacity(length: usize) -> usize
     ensures { λ x. ⌜ x ≡ capacity length ⌝ }
 {
-    let most = MOST_TICKS as usize;
+    let most = record::MOST_TICKS as usize;
     if length / RECORD_WIDTH < most {
         return length / RECORD_WIDTH;
     }
@@ -47,7 +44,7 @@ pub fn rebuilt(card: Card, journal: &[u8], m: usize) -> Advanced
     requires { ⌜ allInRange (now journal) m ≡ true ⌝ }
     ensures { λ x. ⌜ x ≡ after card (records (now (journal .entry))) m ⌝ }
 {
-    let state = rules::fresh_state();
+    let state = state::fresh_state();
     let answer = rules::no_answer();
     let mut last = Advanced {
         state: state,

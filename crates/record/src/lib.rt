@@ -163,6 +163,9 @@ pub fn take_sample(s: Sample) -> Taken
     }
 }
 
+// The most ticks of a drive: twelve minutes.
+pub const MOST_TICKS: u16 = 7200;
+
 // How many bytes a record takes.
 pub const RECORD_WIDTH: usize = 8;
 

@@ -20,7 +20,7 @@ use Rattle.record.specs.Sample.{sampleRefusal, sampleRecord}
 use Rattle.record.proofs.Ranges.{record-ranges}
 use Rattle.record.proofs.Bytes.{put-length, put-before, put-back}
 use Rattle.record.proofs.Refusal.{sample-in-range, sample-v}
-use Rattle.rules.specs.declared.State.{State}
+use Rattle.state.specs.declared.State.{State}
 use Rattle.rules.specs.declared.Advanced.{Advanced}
 use Rattle.rules.specs.Tick.{advance}
 use Rattle.rules.specs.After.{after}

@@ -8,10 +8,10 @@ use Rattle.card.specs.declared.Card.{Card}
 use Rattle.card.specs.Card.{CardRanges}
 use Rattle.record.specs.declared.Record.{Record}
 use Rattle.record.specs.Record.{RecordRanges}
-use Rattle.rules.specs.State.{StateRanges}
+use Rattle.state.specs.State.{StateRanges}
 use Rattle.rules.specs.Tick.{advance}
 use Rattle.rules.specs.After.{after}
-use Rattle.rules.proofs.Ranges.{fresh-ranges}
+use Rattle.state.proofs.Ranges.{fresh-ranges}
 use Rattle.rules.proofs.Keeps.{advance-keeps}
 
 pub after-next : (card : Card) (H : ℕ → Record) (m : ℕ) → after card H (m + 1) ≡ advance card (after card H m .state) (H m)

@@ -1,4 +1,4 @@
--- One tick keeps the state in range, and what it finds on the way is in range too.
+-- One tick keeps the state in range.
 -- Each part by the law of its step, put together as the tick puts them together. Assumes nothing.
 use Prim.Native.Nat.{ℕ, _≤_}
 use mathlib.Core.Bool.{_||_}
@@ -17,33 +17,12 @@ use Rattle.vigilance.specs.Ranges.{WatchRanges, OnceRanges, OneTimeRanges}
 use Rattle.vigilance.proofs.Keeps.{watch-kind-most, watched-ranges, asked-ranges}
 use Rattle.causes.specs.Direction.{farthest}
 use Rattle.causes.proofs.Keeps.{wrongway-now-most, wrongway-left-most, standing-now-most, mask-of-most}
-use Rattle.rules.specs.declared.State.{State}
-use Rattle.rules.specs.State.{StateRanges}
-use Rattle.rules.specs.Mode.{modeNow, newMode, outsidePre, entered}
+use Rattle.state.specs.declared.State.{State}
+use Rattle.state.specs.State.{StateRanges}
+use Rattle.state.proofs.Keeps.{entered-ranges}
 use Rattle.rules.specs.Permitted.{permitted}
 use Rattle.rules.specs.Tick.{aspectIn, permittedIn, kindIn, cyclicIn, oneTimeIn, movedIn, stoodIn, heldNext, wrongwayNext, stateNext, ticked, advance}
 
--- ---- step 1
-module _ (s : State) (r : Record) (good : StateRanges s) (fits : RecordRanges r) where
-  mode-now-between : (pos ≤ modeNow s r) × (modeNow s r ≤ zav)
-  unfolding modeNow
-  mode-now-between = cond-has (λ m. (pos ≤ m) × (m ≤ zav)) (eqb (r .v) 0) (omega arith) (omega arith)
-
-  pub entered-ranges : StateRanges (entered s r)
-  unfolding entered
-  entered-ranges = record {
-    mode-least = mode-now-between .0;
-    mode-most = mode-now-between .1;
-    buttons-most = good .buttons-most;
-    signal = cond-has SignalRanges (newMode s r || outsidePre s r) (omega arith) (good .signal);
-    once = cond-has OnceRanges (newMode s r || outsidePre s r) (omega arith) (good .once);
-    watch = cond-has WatchRanges (newMode s r) (omega arith) (good .watch);
-    wrongway-most = simp most-iff (omega arith);
-    standing-most = simp most-iff (omega arith);
-    causes-most = good .causes-most;
-  }
-
--- ---- steps 2 to 10
 pub permitted-most : (card : Card) (mode speed : ℕ) → CardRanges card → permitted card mode speed ≤ topSpeed
 unfolding permitted
 permitted-most card mode speed good = simp most-iff (omega arith)

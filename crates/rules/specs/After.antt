@@ -3,7 +3,7 @@ use Prim.Native.Nat.{ℕ, zero, suc}
 use Rattle.card.specs.declared.Card.{Card}
 use Rattle.record.specs.declared.Record.{Record}
 use Rattle.rules.specs.declared.Advanced.{Advanced}
-use Rattle.rules.specs.State.{freshState}
+use Rattle.state.specs.State.{freshState}
 use Rattle.rules.specs.Tick.{noAnswer, advance}
 
 unfoldable pub after : Card → (ℕ → Record) → ℕ → Advanced

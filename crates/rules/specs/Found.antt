@@ -1,7 +1,7 @@
 -- What steps 2 to 9 of a tick find, in the one struct that the code hands on.
 use Rattle.card.specs.declared.Card.{Card}
 use Rattle.record.specs.declared.Record.{Record}
-use Rattle.rules.specs.declared.State.{State}
+use Rattle.state.specs.declared.State.{State}
 use Rattle.rules.specs.declared.Findings.{Findings}
 use Rattle.rules.specs.Tick.{keysIn, aspectIn, permittedIn, cyclicIn, oneTimeIn, movedIn, stoodIn}
 

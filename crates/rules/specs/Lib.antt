@@ -1,5 +1,3 @@
-pub mod State
-pub mod Mode
 pub mod Permitted
 pub mod Tick
 pub mod Found

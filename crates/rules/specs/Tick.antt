@@ -24,10 +24,10 @@ use Rattle.causes.specs.Held.{heldIn, maskOf, lowest, howMany}
 use Rattle.causes.specs.Direction.{driven}
 use Rattle.causes.specs.Standing.{parked}
 use Rattle.causes.specs.Keeping.{remoteStops, released, kept, wrongwayLeft}
-use Rattle.rules.specs.declared.State.{State}
+use Rattle.state.specs.declared.State.{State}
 use Rattle.rules.specs.declared.Answer.{Answer}
 use Rattle.rules.specs.declared.Advanced.{Advanced}
-use Rattle.rules.specs.Mode.{entered}
+use Rattle.state.specs.Mode.{entered}
 use Rattle.rules.specs.Permitted.{permitted}
 
 -- marks: bit 0 MAN, 1 curve, 2 cyclic prompt, 3 one-time prompt, 4 its kind, 5 ZS20

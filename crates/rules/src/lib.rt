@@ -1,13 +1,11 @@
-// One whole tick: the state that the desk holds, the ten steps in their order, and the answer.
+// One whole tick: the ten steps in their order, and the answer.
 ghost use mathlib.Core.Path.{_≡_};
 ghost use Prim.Native.Nat.{_≤_};
 ghost use Rattle.card.specs.Card.{CardRanges};
 ghost use Rattle.reading.specs.Speed.{topSpeed};
-ghost use Rattle.record.specs.Modes.{pos, zav};
 ghost use Rattle.record.specs.Record.{RecordRanges};
 ghost use Rattle.signal.specs.Ranges.{AspectRanges};
-ghost use Rattle.rules.specs.State.{freshState, StateRanges, stateInRange};
-ghost use Rattle.rules.specs.Mode.{modeNow, entered};
+ghost use Rattle.state.specs.State.{StateRanges};
 ghost use Rattle.rules.specs.Permitted.{ceiling, permitted};
 ghost use Rattle.rules.specs.Tick.{noAnswer, keysIn, aspectIn, triggersIn, stateNext, marks, ticked, advance};
 ghost use Rattle.rules.specs.Found.{found};
@@ -20,25 +18,10 @@ use record::Record;
 use signal::Aspect;
 use signal::Curve;
 use signal::Signal;
+use state::State;
 use vigilance::Cyclic;
 use vigilance::Once;
 use vigilance::OneTime;
-use vigilance::Watch;
-
-// All that the desk holds but its card and n.
-pub struct State {
-    pub mode: u8,
-    // the three buttons of the last tick: vigilance, PLUS, MAN
-    pub buttons: u8,
-    pub signal: Signal,
-    pub once: Once,
-    pub watch: Watch,
-    // d, the distance driven the wrong way
-    pub wrongway: u16,
-    // h, the ticks that the train has stood unbraked
-    pub standing: u16,
-    pub causes: u8,
-}
 
 // What steps 2 to 9 find.
 pub struct Findings {
@@ -80,73 +63,6 @@ pub fn no_answer() -> Answer
         lowest: 0,
         held: 0,
     }
-}
-
-// All three buttons.
-const ALL_BUTTONS: u8 = 7;
-
-pub fn fresh_state() -> State
-    ensures { λ s. ⌜ s ≡ freshState ⌝ }
-{
-    State {
-        mode: record::POS,
-        buttons: 0,
-        signal: signal::no_signal(),
-        once: Once { ticks: 0, kind: 0 },
-        watch: Watch { kind: 0, ticks: 0 },
-        wrongway: 0,
-        standing: 0,
-        causes: 0,
-    }
-}
-
-pub fn state_in_range(s: State) -> bool
-    ensures { λ x. ⌜ x ≡ stateInRange s ⌝ }
-{
-    (record::POS <= s.mode)
-        & (s.mode <= record::ZAV)
-        & (s.buttons <= ALL_BUTTONS)
-        & signal::signal_in_range(s.signal)
-        & vigilance::once_in_range(s.once)
-        & vigilance::watch_in_range(s.watch)
-        & (s.wrongway <= causes::FARTHEST)
-        & (s.standing <= card::LONG_WAIT)
-        & (s.causes <= causes::ALL_HELD)
-}
-
-fn mode_now(s: State, r: Record) -> u8
-    requires { ⌜ StateRanges s × RecordRanges r ⌝ }
-    ensures { λ m. ⌜ (m ≡ modeNow s r) × ((pos ≤ m) × (m ≤ zav)) ⌝ }
-{
-    if r.v == 0 {
-        return r.mode;
-    }
-    s.mode
-}
-
-// Step 1.
-fn entered(s: State, r: Record) -> State
-    requires { ⌜ StateRanges s × RecordRanges r ⌝ }
-    ensures { λ x. ⌜ (x ≡ entered s r) × StateRanges x ⌝ }
-{
-    let mode = mode_now(s, r);
-    let mut x = s;
-    x.mode = mode;
-    if mode == s.mode {
-        if mode == record::PRE {
-            return x;
-        }
-        let none = signal::no_signal();
-        let quiet = Once { ticks: 0, kind: 0 };
-        x.signal = none;
-        x.once = quiet;
-        return x;
-    }
-    let mut cleared = fresh_state();
-    cleared.mode = mode;
-    cleared.buttons = s.buttons;
-    cleared.causes = s.causes;
-    cleared
 }
 
 // Steps 2 to 6, in PRE alone.
@@ -325,7 +241,7 @@ pub fn advance(card: Card, state: State, r: Record) -> Advanced
     requires { ⌜ CardRanges card × StateRanges state × RecordRanges r ⌝ }
     ensures { λ x. ⌜ (x ≡ advance card state r) × StateRanges (x .state) ⌝ }
 {
-    let s = entered(state, r);
+    let s = state::entered(state, r);
     let f = found(card, s, r);
     ticked(card, s, r, f)
 }

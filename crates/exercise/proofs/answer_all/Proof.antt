@@ -9,12 +9,12 @@ use Rattle.layout.proofs.Written.{written-nil, length-written}
 use Rattle.card.specs.declared.Card.{Card}
 use Rattle.record.specs.declared.Record.{Record}
 use Rattle.record.proofs.Ranges.{record-ranges}
-use Rattle.rules.specs.declared.State.{State}
+use Rattle.state.specs.declared.State.{State}
 use Rattle.rules.specs.declared.Advanced.{Advanced}
-use Rattle.rules.specs.State.{StateRanges}
+use Rattle.state.specs.State.{StateRanges}
 use Rattle.rules.specs.Tick.{advance}
 use Rattle.rules.specs.After.{after}
-use Rattle.rules.proofs.Ranges.{fresh-ranges}
+use Rattle.state.proofs.Ranges.{fresh-ranges}
 use Rattle.rules.proofs.After.{after-next}
 use Rattle.file.specs.File.{runCount}
 use Rattle.file.specs.Runs.{ticksTo}

@@ -7,10 +7,10 @@ use Rattle.record.specs.declared.Record.{Record}
 use Rattle.record.specs.Record.{recordInRange}
 use Rattle.record.proofs.Ranges.{record-ranges}
 use Rattle.rules.specs.declared.Advanced.{Advanced}
-use Rattle.rules.specs.State.{StateRanges}
+use Rattle.state.specs.State.{StateRanges}
 use Rattle.rules.specs.Tick.{advance}
 use Rattle.rules.specs.After.{after}
-use Rattle.rules.proofs.Ranges.{fresh-ranges}
+use Rattle.state.proofs.Ranges.{fresh-ranges}
 use Rattle.rules.proofs.After.{after-next}
 use Rattle.journal.specs.Journal.{records}
 use Rattle.numbers.proofs.All.{all-each}

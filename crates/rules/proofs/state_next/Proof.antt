@@ -1,5 +1,5 @@
 use Rattle.numbers.proofs.Alike.{and-so}
-use Rattle.rules.specs.State.{StateRanges}
+use Rattle.state.specs.State.{StateRanges}
 use Rattle.rules.proofs.Keeps.{state-next-ranges}
 use Rattle.rules.specs.Tick.{releasesIn, heldNext, wrongwayNext, stateNext}
 use borrow.Author.Needs.{needs}

@@ -6,8 +6,8 @@ use native.Mathlib.Omega.{arith}
 use Rattle.numbers.proofs.Tests.{and-iff, leb-iff}
 use Rattle.signal.proofs.Ranges.{signal-ranges, ranges-signal}
 use Rattle.vigilance.proofs.Ranges.{watch-ranges, ranges-watch, once-ranges, ranges-once}
-use Rattle.rules.specs.declared.State.{State}
-use Rattle.rules.specs.State.{freshState, StateRanges, stateInRange}
+use Rattle.state.specs.declared.State.{State}
+use Rattle.state.specs.State.{freshState, StateRanges, stateInRange}
 
 pub state-ranges : (s : State) → stateInRange s ≡ true → StateRanges s
 unfolding stateInRange

@@ -9,7 +9,7 @@ use Rattle.signal.specs.Ranges.{noSignal, SignalRanges, signalInRange}
 use Rattle.vigilance.specs.Ranges.{noWatch, noOnce, WatchRanges, OnceRanges, watchInRange, onceInRange}
 use Rattle.causes.specs.Held.{allHeld}
 use Rattle.causes.specs.Direction.{farthest}
-use Rattle.rules.specs.declared.State.{State}
+use Rattle.state.specs.declared.State.{State}
 
 -- a mode, all else 0
 abbrev pub only : ℕ → State

@@ -6,7 +6,7 @@ use Rattle.record.specs.declared.Record.{Record}
 use Rattle.record.specs.Modes.{pre}
 use Rattle.signal.specs.Ranges.{noSignal}
 use Rattle.vigilance.specs.Ranges.{noWatch, noOnce}
-use Rattle.rules.specs.declared.State.{State}
+use Rattle.state.specs.declared.State.{State}
 
 module _ (s : State) (r : Record) where
   -- if v = 0, the asked mode is taken; if v > 0 the mode stays

@@ -1,7 +1,7 @@
-use Rattle.rules.specs.State.{stateInRange}
+use Rattle.state.specs.State.{stateInRange}
 use borrow.Author.Needs.{needs}
-use Rattle.rules.proofs.state_in_range.Statement.{statement}
-use Rattle.rules.proofs.state_in_range.Tie as tie
+use Rattle.state.proofs.state_in_range.Statement.{statement}
+use Rattle.state.proofs.state_in_range.Tie as tie
 
 signal-in-range-requires : tie.Need-signal-in-range-requires
 signal-in-range-requires c κs = search needs

@@ -1,6 +1,6 @@
 use borrow.Author.Needs.{needs}
-use Rattle.rules.proofs.fresh_state.Statement.{statement}
-use Rattle.rules.proofs.fresh_state.Tie as tie
+use Rattle.state.proofs.fresh_state.Statement.{statement}
+use Rattle.state.proofs.fresh_state.Tie as tie
 
 no-signal-requires : tie.Need-no-signal-requires
 no-signal-requires c κs = search needs

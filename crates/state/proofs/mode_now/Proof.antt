@@ -1,8 +1,8 @@
-use Rattle.rules.specs.Mode.{modeNow}
+use Rattle.state.specs.Mode.{modeNow}
 use borrow.Author.Tests.{eq-eqb, ne-eqb}
 use borrow.Author.Needs.{needs}
-use Rattle.rules.proofs.mode_now.Statement.{statement}
-use Rattle.rules.proofs.mode_now.Tie as tie
+use Rattle.state.proofs.mode_now.Statement.{statement}
+use Rattle.state.proofs.mode_now.Tie as tie
 
 returns : tie.Need-returns
 unfolding modeNow

@@ -1,11 +1,11 @@
 use Rattle.numbers.proofs.Alike.{and-so}
-use Rattle.rules.specs.State.{StateRanges}
-use Rattle.rules.specs.Mode.{entered}
-use Rattle.rules.proofs.Keeps.{entered-ranges}
+use Rattle.state.specs.State.{StateRanges}
+use Rattle.state.specs.Mode.{entered}
+use Rattle.state.proofs.Keeps.{entered-ranges}
 use borrow.Author.Tests.{eq-eqb, ne-eqb}
 use borrow.Author.Needs.{needs}
-use Rattle.rules.proofs.entered.Statement.{statement}
-use Rattle.rules.proofs.entered.Tie as tie
+use Rattle.state.proofs.entered.Statement.{statement}
+use Rattle.state.proofs.entered.Tie as tie
 
 mode-now-requires : tie.Need-mode-now-requires
 mode-now-requires c κs = search needs
