@@ -8,10 +8,11 @@ use Rattle.reading.specs.Speed.{speedAt, speedOf, speedValue}
 use Rattle.card.specs.Card.{cardInRange}
 use Rattle.record.specs.Record.{recordInRange}
 use Rattle.record.specs.Flags.{pressed, keysOf}
-use Rattle.signal.specs.Target.{target}
+use Rattle.codes.specs.Target.{target}
 use Rattle.signal.specs.Speed.{curveValue, signalSpeed}
-use Rattle.signal.specs.NewCode.{gapMan, manByCode, curveBegins, curveByCode, gapCodeNext, gapNext, raiseByCode}
-use Rattle.signal.specs.Plus.{raiseNext}
+use Rattle.codes.specs.Gap.{gapCodeNext, gapNext}
+use Rattle.signal.specs.NewCode.{gapMan, manByCode, curveBegins, curveByCode}
+use Rattle.codes.specs.Plus.{raiseByCode, raiseNext, codesNext}
 use Rattle.signal.specs.Man.{manLowered}
 use Rattle.signal.specs.Curve.{ageNow, curveHolds, manStarts, curveAged, manStarted}
 use Rattle.signal.specs.Aspect.{aspectNow}
@@ -30,5 +31,5 @@ use Rattle.examples.specs.Rows.{rows}
 
 -- with `[]` and `_∷_` in scope, a refusal of a short table shows the numbers that differ
 pub rows-hold : map (λ row. row .what) rows ≡ map (λ row. row .is) rows
-unfolding rows ticks drive taken atEnd ofBits quantity speedAt speedOf speedValue cardInRange recordInRange pressed keysOf target curveValue signalSpeed gapMan manByCode curveBegins curveByCode gapCodeNext gapNext raiseByCode raiseNext manLowered ageNow curveHolds manStarts curveAged manStarted aspectNow asksIncreased asksOrdinary watchKind cycleLength watchLapses watchTicks watchPrompts lead exceeds onceLapses onceStays asksAhead asksAtStart onceTicks onceKind givenNext heldIn maskOf also listed firstOr lowest howMany agrees wrongwayNow wrongwayTriggers counted standingNow standingTriggers standingSounds released kept wrongwayLeft modeNow entered ceiling permitted aspectIn permittedIn kindIn cyclicIn oneTimeIn movedIn stoodIn triggersIn releasesIn heldNext wrongwayNext marks stateNext answerNow ticked advance after
+unfolding rows ticks drive taken atEnd ofBits quantity speedAt speedOf speedValue cardInRange recordInRange pressed keysOf target curveValue signalSpeed gapMan manByCode curveBegins curveByCode gapCodeNext gapNext raiseByCode raiseNext codesNext manLowered ageNow curveHolds manStarts curveAged manStarted aspectNow asksIncreased asksOrdinary watchKind cycleLength watchLapses watchTicks watchPrompts lead exceeds onceLapses onceStays asksAhead asksAtStart onceTicks onceKind givenNext heldIn maskOf also listed firstOr lowest howMany agrees wrongwayNow wrongwayTriggers counted standingNow standingTriggers standingSounds released kept wrongwayLeft modeNow entered ceiling permitted aspectIn permittedIn kindIn cyclicIn oneTimeIn movedIn stoodIn triggersIn releasesIn heldNext wrongwayNext marks stateNext answerNow ticked advance after
 rows-hold = refl

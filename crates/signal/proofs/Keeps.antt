@@ -4,7 +4,7 @@ use Prim.Native.Nat.{ℕ, _≤_}
 use mathlib.Core.Path.{_≡_}
 use mathlib.Core.Bool.{Bool, true}
 use native.Mathlib.Omega.{arith}
-use borrow.Author.Tests.{ltb-true, eqb-false}
+use borrow.Author.Tests.{eqb-false}
 use Rattle.numbers.proofs.Choice.{cond-iff, most-iff}
 use Rattle.numbers.proofs.Tests.{and-iff, not-iff}
 use Rattle.reading.specs.Speed.{topSpeed}
@@ -13,22 +13,18 @@ use Rattle.card.specs.Card.{CardRanges}
 use Rattle.record.specs.declared.Record.{Record}
 use Rattle.record.specs.declared.Keys.{Keys}
 use Rattle.record.specs.Record.{RecordRanges}
-use Rattle.record.specs.Codes.{clear}
 use Rattle.signal.specs.declared.Curve.{Curve}
 use Rattle.signal.specs.declared.Signal.{Signal}
-use Rattle.signal.specs.Ranges.{CurveRanges, SignalRanges, AspectRanges, longestGap, mostRaise, oldestAge}
-use Rattle.signal.specs.Target.{target}
+use Rattle.signal.specs.Ranges.{CurveRanges, SignalRanges, AspectRanges, oldestAge}
 use Rattle.signal.specs.Speed.{curveValue, signalSpeed}
-use Rattle.signal.specs.NewCode.{oldSpeed, manByCode, curveByCode, gapCodeNext, gapNext, raiseByCode}
-use Rattle.signal.specs.Plus.{raiseNext}
+use Rattle.signal.specs.NewCode.{oldSpeed, manByCode, curveByCode}
+use Rattle.codes.specs.Ranges.{CodesRanges}
+use Rattle.codes.specs.Plus.{codesNext}
+use Rattle.codes.proofs.Keeps.{target-most, codes-next-ranges}
 use Rattle.signal.specs.Man.{manLowered}
 use Rattle.signal.specs.Curve.{ageNow, curveHolds, curveAged, manStarted}
 use Rattle.signal.specs.Aspect.{targetNow, curveNext, manNext, aspectNow}
 use Rattle.signal.proofs.Spent.{unspent}
-
-pub target-most : (card : Card) (code raise : ℕ) → CardRanges card → raise ≤ mostRaise → target card code raise ≤ topSpeed
-unfolding target
-target-most card code raise good few = simp most-iff (omega arith)
 
 pub signal-speed-most : (card : Card) (curve : Curve) (man t : ℕ) → CurveRanges curve → man ≤ topSpeed → t ≤ topSpeed
     → signalSpeed card curve man t ≤ topSpeed
@@ -38,19 +34,6 @@ signal-speed-most card curve man t good p q = simp most-iff (omega arith)
 pub man-lowered-most : (was now : ℕ) (unchanged : Bool) (t v : ℕ) → now ≤ topSpeed → manLowered was now unchanged t v ≤ topSpeed
 unfolding manLowered
 man-lowered-most was now unchanged t v p = simp most-iff (omega arith)
-
-module _ (s : Signal) (r : Record) (good : SignalRanges s) where
-  pub gap-code-next-most : gapCodeNext s r ≤ clear
-  unfolding gapCodeNext
-  gap-code-next-most = simp most-iff (omega arith)
-
-  pub gap-next-most : gapNext s r ≤ longestGap
-  unfolding gapNext
-  gap-next-most = simp most-iff (omega arith)
-
-  pub raise-next-most : (k : Keys) → raiseNext s r k ≤ mostRaise
-  unfolding raiseNext raiseByCode
-  raise-next-most k = simp (most-iff, and-iff) (omega (arith, ltb-true))
 
 module _ (card : Card) (curve : Curve) (begins : Bool) (t : ℕ) (k : Keys) (card-good : CardRanges card) (good : CurveRanges curve) where
   -- a curve that goes on is not spent
@@ -77,8 +60,11 @@ module _ (card : Card) (s : Signal) (r : Record) (card-good : CardRanges card) (
   curve-by-code-ranges = simp (cond-iff CurveRanges) (omega (arith, old-speed-most))
 
   module _ (k : Keys) where
+    codes-ranges : CodesRanges (codesNext (s .codes) r k)
+    codes-ranges = codes-next-ranges _ _ _ (good .codes) fits
+
     target-now-most : targetNow card s r k ≤ topSpeed
-    target-now-most = target-most _ _ _ card-good (raise-next-most _ _ good _)
+    target-now-most = target-most _ _ _ card-good (codes-ranges .raise-most)
 
     curve-next-ranges : CurveRanges (curveNext card s r k)
     curve-next-ranges = curve-aged-ranges _ _ _ _ _ card-good curve-by-code-ranges
@@ -91,7 +77,7 @@ module _ (card : Card) (s : Signal) (r : Record) (card-good : CardRanges card) (
     unfolding aspectNow
     aspect-now-ranges = record {
       signal = record {
-        codes = omega (arith, gap-code-next-most s r good, gap-next-most s r good, raise-next-most s r good k);
+        codes = codes-ranges;
         curve = curve-next-ranges;
         man-most = man-next-most;
       };

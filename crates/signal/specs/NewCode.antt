@@ -1,5 +1,5 @@
--- Step 2: a new code, and the gap before it.
-use Prim.Native.Nat.{ℕ, _+_, min, max}
+-- Step 2: what a new code does to MAN and the curve.
+use Prim.Native.Nat.{ℕ, max}
 use mathlib.Core.Bool.{Bool, not, _&&_, cond}
 use lib.Dec.{ltb, leb, eqb}
 use Rattle.card.specs.declared.Card.{Card}
@@ -8,8 +8,9 @@ use Rattle.record.specs.Codes.{none}
 use Rattle.signal.specs.declared.Curve.{Curve}
 use Rattle.signal.specs.declared.Signal.{Signal}
 use Rattle.signal.specs.declared.Turn.{Turn}
-use Rattle.signal.specs.Ranges.{longestGap, noCurve}
-use Rattle.signal.specs.Target.{target}
+use Rattle.codes.specs.Gap.{newCode}
+use Rattle.signal.specs.Ranges.{noCurve}
+use Rattle.codes.specs.Target.{target}
 use Rattle.signal.specs.Speed.{on, signalSpeed}
 
 abbrev pub curveFrom : ℕ → Curve
@@ -22,12 +23,6 @@ leastMan = 1200
 -- M for a speed: that speed, or the least
 abbrev pub manAt : ℕ → ℕ
 manAt speed = max leastMan speed
-
-abbrev pub unchanged : Signal → Record → Bool
-unchanged s r = eqb (r .code) (s .codes .last)
-
-abbrev pub newCode : Signal → Record → Bool
-newCode s r = not (unchanged s r)
 
 -- S0, the old signal speed
 abbrev pub oldSpeed : Card → Signal → ℕ
@@ -50,34 +45,15 @@ module _ (card : Card) (s : Signal) (r : Record) where
 
   -- where MAN stays on it keeps its speed, and the curve, if one runs beside it, is left alone
   unfoldable pub manByCode : ℕ
-  manByCode = cond (newCode s r) (cond manStays (s .man) (cond gapMan (manAt (r .v)) 0)) (s .man)
+  manByCode = cond (newCode (s .codes) r) (cond manStays (s .man) (cond gapMan (manAt (r .v)) 0)) (s .man)
 
   -- else a curve begins if T < S0
   unfoldable pub curveBegins : Bool
-  curveBegins = newCode s r && not manStays && not gapMan && ltb (newTarget card r) (oldSpeed card s)
+  curveBegins = newCode (s .codes) r && not manStays && not gapMan && ltb (newTarget card r) (oldSpeed card s)
 
   unfoldable pub curveByCode : Curve
   curveByCode =
-      cond (newCode s r) (cond manStays (s .curve) (cond curveBegins (curveFrom (oldSpeed card s)) noCurve)) (s .curve)
+      cond (newCode (s .codes) r) (cond manStays (s .curve) (cond curveBegins (curveFrom (oldSpeed card s)) noCurve)) (s .curve)
 
   abbrev pub turned : Turn
   turned = record { man = manByCode; curve = curveByCode; begins = curveBegins }
-
-module _ (s : Signal) (r : Record) where
-  -- k: a change to 0 puts the old code in k and g = 1; a change from 0 ends with k = g = 0
-  unfoldable pub gapCodeNext : ℕ
-  gapCodeNext =
-      cond (newCode s r)
-      (cond (eqb (r .code) none) (s .codes .last) (cond (eqb (s .codes .last) none) 0 (s .codes .before)))
-      (s .codes .before)
-
-  -- g: if code 0 goes on, g grows by one, to 51 at most
-  unfoldable pub gapNext : ℕ
-  gapNext =
-      cond (newCode s r)
-      (cond (eqb (r .code) none) 1 (cond (eqb (s .codes .last) none) 0 (s .codes .gap)))
-      (cond (eqb (r .code) none) (min longestGap (s .codes .gap + 1)) (s .codes .gap))
-
-  -- raise becomes 0 before the new T is taken
-  unfoldable pub raiseByCode : ℕ
-  raiseByCode = cond (newCode s r) 0 (s .codes .raise)

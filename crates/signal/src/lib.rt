@@ -1,32 +1,19 @@
-// Steps 2 to 6 of a tick, in PRE: from the code on the rail to the signal speed.
+// MAN, the braking curve and the signal speed: steps 2 to 6 of a tick, in PRE.
 ghost use mathlib.Core.Path.{_≡_};
 ghost use Prim.Native.Nat.{suc, _≤_, _-_, min, max};
 ghost use Rattle.card.specs.Card.{CardRanges};
 ghost use Rattle.reading.specs.Speed.{topSpeed};
-ghost use Rattle.record.specs.Codes.{clear};
 ghost use Rattle.record.specs.Record.{RecordRanges};
-ghost use Rattle.signal.specs.Ranges.{longestGap, mostRaise, oldestAge, noSignal, CurveRanges, SignalRanges, TurnRanges, AspectRanges, signalInRange};
-ghost use Rattle.signal.specs.Target.{target};
+ghost use Rattle.signal.specs.Ranges.{oldestAge, noSignal, CurveRanges, SignalRanges, TurnRanges, AspectRanges, signalInRange};
 ghost use Rattle.signal.specs.Speed.{curveValue, signalSpeed};
-ghost use Rattle.signal.specs.NewCode.{gapMan, turned, gapCodeNext, gapNext, raiseByCode};
-ghost use Rattle.signal.specs.Plus.{raiseNext};
+ghost use Rattle.signal.specs.NewCode.{gapMan, turned};
 ghost use Rattle.signal.specs.Man.{manLowered};
 ghost use Rattle.signal.specs.Curve.{ageNow, aged, manStarted};
 ghost use Rattle.signal.specs.Aspect.{aspectNow};
 use card::Card;
+use codes::Codes;
 use record::Keys;
 use record::Record;
-
-// The codes, and what came of them.
-pub struct Codes {
-    // the last code
-    pub last: u8,
-    // k, the code before a gap
-    pub before: u8,
-    // g, the gap in ticks
-    pub gap: u8,
-    pub raise: u8,
-}
 
 // The braking curve.
 pub struct Curve {
@@ -68,10 +55,6 @@ pub struct Aspect {
     pub speed: u16,
 }
 
-const LONGEST_GAP: u8 = 51;
-
-const MOST_RAISE: u8 = 4;
-
 const OLDEST_AGE: u16 = 5000;
 
 // MAN never goes below this speed.
@@ -80,10 +63,7 @@ const MAN_LEAST: u16 = 1200;
 pub fn signal_in_range(s: Signal) -> bool
     ensures { λ x. ⌜ x ≡ signalInRange s ⌝ }
 {
-    (s.codes.last <= record::CLEAR)
-        & (s.codes.before <= record::CLEAR)
-        & (s.codes.gap <= LONGEST_GAP)
-        & (s.codes.raise <= MOST_RAISE)
+    codes::codes_in_range(s.codes)
         & (s.curve.start <= reading::TOP_SPEED)
         & (s.curve.age <= OLDEST_AGE)
         & (s.curve.given <= 1)
@@ -108,22 +88,6 @@ pub fn no_signal() -> Signal
         },
         man: 0,
     }
-}
-
-fn target(card: Card, code: u8, raise: u8) -> u16
-    requires { ⌜ CardRanges card × (raise ≤ mostRaise) ⌝ }
-    ensures { λ t. ⌜ (t ≡ target card code raise) × (t ≤ topSpeed) ⌝ }
-{
-    if (code == record::NONE) | (code == record::WARNING) {
-        return 1200;
-    }
-    if code == record::STOP {
-        return card.stop;
-    }
-    if code == record::FORTY {
-        return 400 + 200 * (raise as u16);
-    }
-    1600
 }
 
 // What is left of the start once so much has fallen off.
@@ -160,8 +124,8 @@ fn gap_man(card: Card, s: Signal, r: Record) -> bool
     requires { ⌜ CardRanges card ⌝ }
     ensures { λ x. ⌜ x ≡ gapMan card s r ⌝ }
 {
-    let t = target(card, r.code, 0);
-    let old = target(card, s.codes.before, 0);
+    let t = codes::target(card, r.code, 0);
+    let old = codes::target(card, s.codes.before, 0);
     (s.codes.last == record::NONE)
         & (s.codes.before != record::NONE)
         & (50 < s.codes.gap)
@@ -186,7 +150,7 @@ fn turned(card: Card, s: Signal, r: Record) -> Turn
             begins: false,
         };
     }
-    let t = target(card, r.code, 0);
+    let t = codes::target(card, r.code, 0);
     if (0 < s.man) & (t <= r.v) {
         return Turn {
             man: s.man,
@@ -205,7 +169,7 @@ fn turned(card: Card, s: Signal, r: Record) -> Turn
         card,
         curve,
         s.man,
-        target(card, s.codes.last, s.codes.raise),
+        codes::target(card, s.codes.last, s.codes.raise),
     );
     if t < old {
         return Turn {
@@ -223,71 +187,6 @@ fn turned(card: Card, s: Signal, r: Record) -> Turn
         curve: none,
         begins: false,
     }
-}
-
-// Step 2: k.
-fn gap_code_next(s: Signal, r: Record) -> u8
-    requires { ⌜ SignalRanges s ⌝ }
-    ensures { λ x. ⌜ (x ≡ gapCodeNext s r) × (x ≤ clear) ⌝ }
-{
-    if r.code == s.codes.last {
-        return s.codes.before;
-    }
-    if r.code == record::NONE {
-        return s.codes.last;
-    }
-    if s.codes.last == record::NONE {
-        return 0;
-    }
-    s.codes.before
-}
-
-// Step 2: g.
-fn gap_next(s: Signal, r: Record) -> u8
-    requires { ⌜ SignalRanges s ⌝ }
-    ensures { λ x. ⌜ (x ≡ gapNext s r) × (x ≤ longestGap) ⌝ }
-{
-    if r.code == s.codes.last {
-        if r.code == record::NONE {
-            if s.codes.gap < LONGEST_GAP {
-                return s.codes.gap + 1;
-            }
-            return LONGEST_GAP;
-        }
-        return s.codes.gap;
-    }
-    if r.code == record::NONE {
-        return 1;
-    }
-    if s.codes.last == record::NONE {
-        return 0;
-    }
-    s.codes.gap
-}
-
-fn raise_by_code(s: Signal, r: Record) -> u8
-    requires { ⌜ SignalRanges s ⌝ }
-    ensures { λ x. ⌜ (x ≡ raiseByCode s r) × (x ≤ mostRaise) ⌝ }
-{
-    if r.code == s.codes.last {
-        return s.codes.raise;
-    }
-    0
-}
-
-// Step 3.
-fn raise_next(s: Signal, r: Record, k: Keys) -> u8
-    requires { ⌜ SignalRanges s ⌝ }
-    ensures { λ x. ⌜ (x ≡ raiseNext s r k) × (x ≤ mostRaise) ⌝ }
-{
-    let raise = raise_by_code(s, r);
-    if k.plus & (r.code == record::FORTY) {
-        if raise < MOST_RAISE {
-            return raise + 1;
-        }
-        return raise;
-    }
-    raise
 }
 
 // Step 4.
@@ -369,10 +268,9 @@ pub fn aspect_now(card: Card, s: Signal, r: Record, k: Keys) -> Aspect
     ensures { λ a. ⌜ (a ≡ aspectNow card s r k) × AspectRanges a ⌝ }
 {
     let turn = turned(card, s, r);
-    let before = gap_code_next(s, r);
-    let gap = gap_next(s, r);
-    let raise = raise_next(s, r, k);
-    let t = target(card, r.code, raise);
+    let old = s.codes;
+    let codes = codes::codes_next(old, r, k);
+    let t = codes::target(card, r.code, codes.raise);
     let lowered = man_lowered(s.man, turn.man, r.code == s.codes.last, t, r.v);
     let aging = aged(card, turn.curve, turn.begins, t, k);
     let man = man_started(aging.starts, lowered, r.v);
@@ -380,12 +278,7 @@ pub fn aspect_now(card: Card, s: Signal, r: Record, k: Keys) -> Aspect
     let speed = signal_speed(card, curve, man, t);
     Aspect {
         signal: Signal {
-            codes: Codes {
-                last: r.code,
-                before: before,
-                gap: gap,
-                raise: raise,
-            },
+            codes: codes,
             curve: curve,
             man: man,
         },

@@ -2,7 +2,9 @@ use mathlib.Core.Path.{ap}
 use Rattle.signal.specs.declared.Turn.{Turn}
 use Rattle.signal.specs.declared.Aging.{Aging}
 use Rattle.signal.specs.Aspect.{aspectNow}
-use native.Mathlib.Omega.{arith}
+use Rattle.numbers.proofs.Alike.{and-so}
+use Rattle.signal.specs.Ranges.{AspectRanges}
+use Rattle.signal.proofs.Keeps.{aspect-now-ranges}
 use borrow.Author.Needs.{needs}
 use Rattle.signal.proofs.aspect_now.Statement.{statement}
 use Rattle.signal.proofs.aspect_now.Tie as tie
@@ -10,14 +12,8 @@ use Rattle.signal.proofs.aspect_now.Tie as tie
 turned-requires : tie.Need-turned-requires
 turned-requires c κs = search needs
 
-gap-code-next-requires : tie.Need-gap-code-next-requires
-gap-code-next-requires c κs = search needs
-
-gap-next-requires : tie.Need-gap-next-requires
-gap-next-requires c κs = search needs
-
-raise-next-requires : tie.Need-raise-next-requires
-raise-next-requires c κs = search needs
+codes-next-requires : tie.Need-codes-next-requires
+codes-next-requires c κs = search needs
 
 target-requires : tie.Need-target-requires
 target-requires c κs = search needs
@@ -29,7 +25,9 @@ aged-requires : tie.Need-aged-requires
 aged-requires c κs = search needs
 
 man-started-requires : tie.Need-man-started-requires
-man-started-requires c κs = omega (arith, c .before .before .before .before .before .before .before .before .before .pre)
+man-started-requires c κs =
+    let start = c .before .before .before .before .before .before .before .before in
+    (c .before .man-lowered .ensures .1, start .pre .2 .v-most)
 
 signal-speed-requires : tie.Need-signal-speed-requires
 signal-speed-requires c κs = search needs
@@ -42,30 +40,21 @@ returns c =
     let curve = ap (λ (x : Aging). x .curve) aging in
     let c4 = c .before .before .before .before in
     let c7 = c4 .before .before .before in
-    let turn = c7 .before .before .before .before .turned .ensures .0 in
+    let start = c7 .before .before .before .before in
+    let turn = c7 .before .before .before .turned .ensures .0 in
     let man = ap (λ (x : Turn). x .man) turn in
     let course = ap (λ (x : Turn). x .curve) turn in
-    let begins = ap (λ (x : Turn). x .begins) turn in (
-      simp (← c .signal-speed .ensures .0, ← c .before .before .man-started .ensures .0, ← starts, ← curve, ← c4 .man-lowered .ensures .0, ← c7 .target .ensures .0, ← c7 .before .raise-next .ensures .0, ← c7 .before .before .gap-next .ensures .0, ← c7 .before .before .before .gap-code-next .ensures .0, ← man, ← course, ← begins),
-      record {
-        signal = record {
-          codes = omega (arith, c7 .before .before .before .before .before .pre);
-          curve = c .before .before .before .aged .ensures .1;
-          man-most = c .before .before .man-started .ensures .1;
-        };
-        target-most = c7 .target .ensures .1;
-        speed-most = c .signal-speed .ensures .1;
-      },
-    )
+    let begins = ap (λ (x : Turn). x .begins) turn in
+    and-so AspectRanges
+    (simp (← c .signal-speed .ensures .0, ← c .before .before .man-started .ensures .0, ← starts, ← curve, ← c4 .man-lowered .ensures .0, ← c7 .target .ensures .0, ← c7 .before .codes-next .ensures .0, ← man, ← course, ← begins))
+    (aspect-now-ranges _ _ _ (start .pre .0) (start .pre .1) (start .pre .2) _)
 
 pub aspect-now-spec : {M : Type 1} → statement M
 aspect-now-spec =
     tie.close
     (tie.spec
     turned-requires
-    gap-code-next-requires
-    gap-next-requires
-    raise-next-requires
+    codes-next-requires
     target-requires
     man-lowered-requires
     aged-requires

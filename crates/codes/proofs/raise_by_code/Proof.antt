@@ -1,8 +1,8 @@
-use Rattle.signal.specs.NewCode.{raiseByCode}
+use Rattle.codes.specs.Plus.{raiseByCode}
 use borrow.Author.Tests.{eq-eqb, ne-eqb}
 use borrow.Author.Needs.{needs}
-use Rattle.signal.proofs.raise_by_code.Statement.{statement}
-use Rattle.signal.proofs.raise_by_code.Tie as tie
+use Rattle.codes.proofs.raise_by_code.Statement.{statement}
+use Rattle.codes.proofs.raise_by_code.Tie as tie
 
 returns : tie.Need-returns
 unfolding raiseByCode

@@ -1,8 +1,8 @@
-use Rattle.signal.specs.Target.{target}
+use Rattle.codes.specs.Target.{target}
 use borrow.Author.Tests.{eq-eqb, ne-eqb}
 use borrow.Author.Needs.{needs}
-use Rattle.signal.proofs.target.Statement.{statement}
-use Rattle.signal.proofs.target.Tie as tie
+use Rattle.codes.proofs.target.Statement.{statement}
+use Rattle.codes.proofs.target.Tie as tie
 
 returns : tie.Need-returns
 unfolding target

@@ -1,8 +1,8 @@
-use Rattle.signal.specs.Plus.{raiseNext}
+use Rattle.codes.specs.Plus.{raiseNext}
 use borrow.Author.Tests.{le-ltb, lt-ltb}
 use borrow.Author.Needs.{needs}
-use Rattle.signal.proofs.raise_next.Statement.{statement}
-use Rattle.signal.proofs.raise_next.Tie as tie
+use Rattle.codes.proofs.raise_next.Statement.{statement}
+use Rattle.codes.proofs.raise_next.Tie as tie
 
 raise-by-code-requires : tie.Need-raise-by-code-requires
 raise-by-code-requires c κs = search needs

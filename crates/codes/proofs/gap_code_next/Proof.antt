@@ -1,8 +1,8 @@
-use Rattle.signal.specs.NewCode.{gapCodeNext}
+use Rattle.codes.specs.Gap.{gapCodeNext}
 use borrow.Author.Tests.{eq-eqb, ne-eqb}
 use borrow.Author.Needs.{needs}
-use Rattle.signal.proofs.gap_code_next.Statement.{statement}
-use Rattle.signal.proofs.gap_code_next.Tie as tie
+use Rattle.codes.proofs.gap_code_next.Statement.{statement}
+use Rattle.codes.proofs.gap_code_next.Tie as tie
 
 returns : tie.Need-returns
 unfolding gapCodeNext

@@ -1,9 +1,9 @@
 use native.Mathlib.Omega.{arith}
-use Rattle.signal.specs.NewCode.{gapNext}
+use Rattle.codes.specs.Gap.{gapNext}
 use borrow.Author.Tests.{eq-eqb, le-ltb, lt-ltb, ne-eqb}
 use borrow.Author.Needs.{needs}
-use Rattle.signal.proofs.gap_next.Statement.{statement}
-use Rattle.signal.proofs.gap_next.Tie as tie
+use Rattle.codes.proofs.gap_next.Statement.{statement}
+use Rattle.codes.proofs.gap_next.Tie as tie
 
 add-result : tie.Need-add-result
 add-result c = search needs

@@ -1,0 +1,4 @@
+pub mod Ranges
+pub mod Target
+pub mod Gap
+pub mod Plus
