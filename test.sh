@@ -1,5 +1,5 @@
 #!/usr/bin/env bash
-# All tests: the proofs, the must-fail edits and the programs by `rt ci`, the files' layout, then the checks on the host.
+# All tests: the proofs, the must-fail edits and the programs by `rt ci`, layout and documents, then the checks on the host.
 # The last line is 'N passed, M failed'; the status is 0 only if M is 0 and every part ran.
 set -u
 cd "$(dirname "$0")" || exit 1
@@ -67,6 +67,7 @@ fi
 # a status that the numbers do not tell, such as a file that no listed crate has
 [ "$status" = 0 ] || [ "$failed" != 0 ] || failed=1
 check "rt fmt --check" rt fmt --check
+check "docs name what is there" bash docs/check.sh
 
 for exercise in tests/exercises/*.ex; do
     check "show $exercise" same "${exercise%.ex}.txt" sh host/run.sh target/bin/show <"$exercise"

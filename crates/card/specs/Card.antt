@@ -10,6 +10,9 @@ use Rattle.layout.specs.Layout.{u16At}
 use Rattle.card.specs.declared.Card.{Card}
 
 -- the bounds other than topSpeed
+abbrev pub leastSpeed : ℕ
+leastSpeed = 1
+
 abbrev pub mostTolerance : ℕ
 mostTolerance = 100
 
@@ -36,15 +39,15 @@ abbrev pub longWait : ℕ
 longWait = 1000
 
 pub record CardRanges (c : Card) : Type 0 where
-  pub design-least : 1 ≤ c .design
+  pub design-least : leastSpeed ≤ c .design
   pub design-most : c .design ≤ topSpeed
-  pub set-least : 1 ≤ c .set
+  pub set-least : leastSpeed ≤ c .set
   pub set-most : c .set ≤ topSpeed
-  pub highest-least : 1 ≤ c .highest
+  pub highest-least : leastSpeed ≤ c .highest
   pub highest-most : c .highest ≤ topSpeed
-  pub pos-least : 1 ≤ c .pos
+  pub pos-least : leastSpeed ≤ c .pos
   pub pos-most : c .pos ≤ topSpeed
-  pub zav-least : 1 ≤ c .zav
+  pub zav-least : leastSpeed ≤ c .zav
   pub zav-most : c .zav ≤ topSpeed
   pub tolerance-most : c .tolerance ≤ mostTolerance
   pub stop-most : c .stop ≤ mostStop
@@ -56,11 +59,11 @@ pub record CardRanges (c : Card) : Type 0 where
 
 unfoldable pub cardInRange : Card → Bool
 cardInRange c =
-    leb 1 (c .design) && leb (c .design) topSpeed
-    && leb 1 (c .set) && leb (c .set) topSpeed
-    && leb 1 (c .highest) && leb (c .highest) topSpeed
-    && leb 1 (c .pos) && leb (c .pos) topSpeed
-    && leb 1 (c .zav) && leb (c .zav) topSpeed
+    leb leastSpeed (c .design) && leb (c .design) topSpeed
+    && leb leastSpeed (c .set) && leb (c .set) topSpeed
+    && leb leastSpeed (c .highest) && leb (c .highest) topSpeed
+    && leb leastSpeed (c .pos) && leb (c .pos) topSpeed
+    && leb leastSpeed (c .zav) && leb (c .zav) topSpeed
     && leb (c .tolerance) mostTolerance
     && leb (c .stop) mostStop
     && leb leastDeceleration (c .deceleration) && leb (c .deceleration) mostDeceleration

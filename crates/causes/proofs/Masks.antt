@@ -3,8 +3,8 @@
 use Prim.Native.Nat.{ℕ, _+_, _≤_}
 use native.Mathlib.Omega.{arith}
 use mathlib.Core.Path.{_≡_, refl}
-use mathlib.Core.Bool.{Bool, true, false, _&&_, _||_, Bool·beq, false≢true}
-use lib.Dec.{leb, eqb}
+use mathlib.Core.Bool.{Bool, true, false, not, _&&_, _||_, Bool·beq, false≢true}
+use lib.Dec.{leb, ltb, eqb}
 use lib.Bits.{bitOr}
 use lib.Count.{ones, onesIn, trailingZeros}
 use borrow.Author.Tests.{eqb-true, ne-eqb}
@@ -109,3 +109,15 @@ pub joined : (m : ℕ) → m ≤ 31 → (t : Causes) (p : ℕ) (r : Record) (k :
     → (bitOr m (maskOf t) ≡ maskOf (kept (heldIn m) t (released p r k))) × (bitOr m (maskOf t) ≤ 31)
 unfolding joins released
 joined m h t p r k e = rw e (right-is _ _ 31 (each (joins m) (all-each (λ m. every (joins m)) m 32 (omega arith) joins-all) t))
+
+-- ---- a mask is 0 where none is held
+some-right : ℕ → Bool
+some-right m = Bool·beq (not (eqb m 0)) (ltb 0 (howMany m))
+
+somes-right : allBelow some-right 32 ≡ true
+unfolding allBelow some-right howMany listed also heldIn
+somes-right = refl
+
+pub some-held : (m : ℕ) → m ≤ 31 → not (eqb m 0) ≡ ltb 0 (howMany m)
+unfolding some-right
+some-held m h = same _ _ (all-each some-right m 32 (omega arith) somes-right)

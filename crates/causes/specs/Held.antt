@@ -35,7 +35,7 @@ maskOf c = cond (c .nz1) nz1 0 + cond (c .nz2) nz2 0 + cond (c .nz3) nz3 0 + con
 unfoldable pub also : Bool → ℕ → List ℕ → List ℕ
 also held number rest = cond held (number ∷ rest) rest
 
--- the numbers of the causes that hold
+-- the numbers of the causes that are held
 unfoldable pub listed : Causes → List ℕ
 listed c = also (c .nz1) 1 (also (c .nz2) 2 (also (c .nz3) 3 (also (c .nz4) 4 (also (c .nz5) 5 []))))
 

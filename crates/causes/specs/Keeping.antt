@@ -1,17 +1,12 @@
--- Step 9, NZ4, and step 10: what lets a cause go, and which are held then.
+-- Step 10: what lets a cause go, and which are held then.
 use Prim.Native.Nat.{ℕ}
 use mathlib.Core.Bool.{Bool, not, _&&_, _||_, cond}
 use lib.Dec.{leb, eqb}
 use Rattle.record.specs.declared.Record.{Record}
 use Rattle.record.specs.declared.Keys.{Keys}
-use Rattle.record.specs.Modes.{preOrVyl}
 use Rattle.causes.specs.declared.Causes.{Causes}
 
--- step 9, NZ4, in PRE and VYL: remote stop on
-abbrev pub remoteStops : ℕ → Keys → Bool
-remoteStops mode keys = preOrVyl mode && keys .remote
-
--- step 10: a vigilance press lets go NZ1, NZ3 if v = 0; NZ2 if v ≤ P; NZ4 if v = 0 and remote stop off; NZ5 always
+-- a vigilance press lets go NZ1, NZ3 if v = 0; NZ2 if v ≤ P; NZ4 if v = 0 and remote stop off; NZ5 always
 unfoldable pub released : ℕ → Record → Keys → Causes
 released p r keys =
     record {

@@ -1,4 +1,5 @@
 pub mod Held
 pub mod Direction
+pub mod Remote
 pub mod Standing
 pub mod Keeping

@@ -2,6 +2,7 @@
 use Prim.Native.Nat.{ℕ, _+_, _-_, min}
 use mathlib.Core.Bool.{Bool, not, _&&_, cond}
 use lib.Dec.{leb, eqb}
+use Rattle.reading.specs.Pressure.{topBand}
 use Rattle.card.specs.declared.Card.{Card}
 use Rattle.record.specs.declared.Record.{Record}
 use Rattle.record.specs.declared.Keys.{Keys}
@@ -10,7 +11,7 @@ use Rattle.causes.specs.declared.Stood.{Stood}
 
 -- v = 0, direct brake off and band 2
 abbrev pub unbraked : Record → Keys → Bool
-unbraked r keys = eqb (r .v) 0 && not (keys .brake) && eqb (r .band) 2
+unbraked r keys = eqb (r .v) 0 && not (keys .brake) && eqb (r .band) topBand
 
 -- held: NZ5 was held before this tick
 module _ (card : Card) (mode : ℕ) (r : Record) (keys : Keys) (held : Bool) (h : ℕ) where

@@ -1,6 +1,6 @@
 // Steps 9 and 10 of a tick: what makes the emergency brake come in, what keeps it there, and the causes as a mask.
 ghost use mathlib.Core.Path.{_≡_};
-ghost use Prim.Native.Nat.{_≤_, _<_};
+ghost use Prim.Native.Nat.{_≤_};
 ghost use Rattle.card.specs.Card.{longWait, CardRanges};
 ghost use Rattle.record.specs.Record.{RecordRanges};
 ghost use Rattle.causes.specs.Held.{allHeld, heldIn, maskOf, lowest, howMany};

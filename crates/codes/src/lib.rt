@@ -13,7 +13,7 @@ use card::Card;
 use record::Keys;
 use record::Record;
 
-// The codes, and what came of them.
+// The last code, the gap and the raise.
 pub struct Codes {
     // the last code
     pub last: u8,

@@ -10,6 +10,7 @@ use lib.ListN.{length}
 use borrow.Author.Tests.{eq-eqb, ne-eqb, le-ltb, lt-ltb, lt-leb, ltb-false, leb-false, not-false}
 use Rattle.numbers.proofs.Tests.{and-iff, leb-iff}
 use Rattle.refusal.specs.Refusal.{badDesk, shortJournal, fullJournal, backTooFar, badRecord}
+use Rattle.refusal.proofs.First.{both-zero, first-zero}
 use Rattle.card.proofs.Ranges.{card-ranges, ranges-card}
 use Rattle.record.specs.declared.Sample.{Sample}
 use Rattle.record.specs.Record.{recordWidth, putRecord, mostTicks}
@@ -22,7 +23,7 @@ use Rattle.desk.specs.declared.Desk.{Desk}
 use Rattle.journal.specs.Journal.{capacity, records, allInRange}
 use Rattle.desk.specs.Desk.{DeskRanges, deskInRange}
 use Rattle.journal.proofs.Room.{room}
-use Rattle.desk.specs.Calls.{refused, accepted, tickRefusal, tickNumber, tickOutcome, tickJournal, backRefusal, backOutcome, restartOutcome}
+use Rattle.desk.specs.Calls.{refused, accepted, deskRefusal, tickRefusalOf, tickRefusal, tickOutcome, tickJournal, backRefusal, backOutcome, restartOutcome}
 
 -- ---- ranges
 pub desk-ranges : (d : Desk) → deskInRange d ≡ true → DeskRanges d
@@ -40,33 +41,41 @@ passed : (b : Bool) (k x : ℕ) → 0 < k → cond b k x ≡ 0 → (b ≡ false)
 passed true k x h e = absurd (omega arith)
 passed false k x h e = (refl, e)
 
-pub record TickTaken (d : Desk) (sample length : ℕ) : Type 0 where
+pub record DeskTaken (d : Desk) (bytes : ℕ) : Type 0 where
   pub desk-good : deskInRange d ≡ true
-  pub long : recordWidth * d .n ≤ length
-  pub below : d .n < capacity length
+  pub long : recordWidth * d .n ≤ bytes
+
+module _ (d : Desk) (bytes : ℕ) where
+  pub desk-taken : deskRefusal d bytes ≡ 0 → DeskTaken d bytes
+  unfolding deskRefusal
+  desk-taken e =
+      let five = passed (not (deskInRange d)) badDesk _ (omega arith) e in
+      let six = passed (ltb bytes (recordWidth * d .n)) shortJournal _ (omega arith) (five .1) in
+      record { desk-good = not-false _ (five .0); long = ltb-false _ _ (six .0) }
+
+  pub taken-desk : DeskTaken d bytes → deskRefusal d bytes ≡ 0
+  unfolding deskRefusal
+  taken-desk t = rw (t .desk-good, le-ltb _ _ (t .long))
+
+pub record TickTaken (d : Desk) (sample bytes : ℕ) : Type 0 where
+  pub desk : DeskTaken d bytes
+  pub below : d .n < capacity bytes
   pub fine : sample ≡ 0
 
-module _ (d : Desk) (sample length : ℕ) where
-  pub tick-taken : tickRefusal d sample length ≡ 0 → TickTaken d sample length
-  unfolding tickRefusal
+module _ (d : Desk) (sample bytes : ℕ) where
+  pub tick-taken : tickRefusalOf d sample bytes ≡ 0 → TickTaken d sample bytes
+  unfolding tickRefusalOf
   tick-taken e =
-      let five = passed (not (deskInRange d)) badDesk _ (omega arith) e in
-      let six = passed (ltb length (recordWidth * d .n)) shortJournal _ (omega arith) (five .1) in
-      let seven = passed (leb (capacity length) (d .n)) fullJournal sample (omega arith) (six .1) in
-      record {
-        desk-good = not-false _ (five .0);
-        long = ltb-false _ _ (six .0);
-        below = leb-false _ _ (seven .0);
-        fine = seven .1;
-      }
+      let both = both-zero (deskRefusal d bytes) _ e in
+      let seven = passed (leb (capacity bytes) (d .n)) fullJournal sample (omega arith) (both .1) in
+      record { desk = desk-taken d bytes (both .0); below = leb-false _ _ (seven .0); fine = seven .1 }
 
-  pub taken-tick : TickTaken d sample length → tickRefusal d sample length ≡ 0
-  unfolding tickRefusal
-  taken-tick t = rw (t .desk-good, le-ltb _ _ (t .long), lt-leb _ _ (t .below)) (t .fine)
+  pub taken-tick : TickTaken d sample bytes → tickRefusalOf d sample bytes ≡ 0
+  unfolding tickRefusalOf
+  taken-tick t = rw (taken-desk d bytes (t .desk), first-zero, lt-leb _ _ (t .below)) (t .fine)
 
 pub record BackTaken (d : Desk) (k : ℕ) (J : List ℕ) : Type 0 where
-  pub desk-good : deskInRange d ≡ true
-  pub long : recordWidth * d .n ≤ length J
+  pub desk : DeskTaken d (length J)
   pub few : k ≤ d .n
   pub good : allInRange J (d .n - k) ≡ true
 
@@ -74,29 +83,23 @@ module _ (d : Desk) (k : ℕ) (J : List ℕ) where
   pub back-taken : backRefusal d k J ≡ 0 → BackTaken d k J
   unfolding backRefusal
   back-taken e =
-      let five = passed (not (deskInRange d)) badDesk _ (omega arith) e in
-      let six = passed (ltb (length J) (recordWidth * d .n)) shortJournal _ (omega arith) (five .1) in
-      let eight = passed (ltb (d .n) k) backTooFar _ (omega arith) (six .1) in
+      let both = both-zero (deskRefusal d (length J)) _ e in
+      let eight = passed (ltb (d .n) k) backTooFar _ (omega arith) (both .1) in
       let nine = passed (not (allInRange J (d .n - k))) badRecord 0 (omega arith) (eight .1) in
-      record {
-        desk-good = not-false _ (five .0);
-        long = ltb-false _ _ (six .0);
-        few = ltb-false _ _ (eight .0);
-        good = not-false _ (nine .0);
-      }
+      record { desk = desk-taken d (length J) (both .0); few = ltb-false _ _ (eight .0); good = not-false _ (nine .0) }
 
   pub taken-back : BackTaken d k J → backRefusal d k J ≡ 0
   unfolding backRefusal
-  taken-back t = rw (t .desk-good, le-ltb _ _ (t .long), le-ltb _ _ (t .few), t .good)
+  taken-back t = rw (taken-desk d (length J) (t .desk), first-zero, le-ltb _ _ (t .few), t .good)
 
   -- more than there are ticks
-  pub back-many : deskInRange d ≡ true → recordWidth * d .n ≤ length J → d .n < k → backRefusal d k J ≡ backTooFar
+  pub back-many : DeskTaken d (length J) → d .n < k → backRefusal d k J ≡ backTooFar
   unfolding backRefusal
-  back-many g l h = rw (g, le-ltb _ _ l, lt-ltb _ _ h)
+  back-many t h = rw (taken-desk d (length J) t, first-zero, lt-ltb _ _ h)
 
 -- ---- outcomes
 module _ (d : Desk) (x : Sample) (J : List ℕ) where
-  pub tick-yes : tickNumber d x J ≡ 0 →
+  pub tick-yes : tickRefusal d x J ≡ 0 →
       (tickOutcome d x J ≡ accepted (d .card) (d .n + 1) (advance (d .card) (d .state) (sampleRecord x)))
       × (tickJournal d x J ≡ putRecord J (recordWidth * d .n) (sampleRecord x))
   unfolding tickOutcome tickJournal
@@ -104,7 +107,7 @@ module _ (d : Desk) (x : Sample) (J : List ℕ) where
       let fits = room _ _ (tick-taken _ _ _ e .below) .1 in
       (rw (eq-eqb _ _ e), rw (eq-eqb _ _ e) (sym (put-fits J (recordWidth * d .n) (sampleRecord x) fits)))
 
-  pub tick-no : (tickNumber d x J ≡ 0 → ⊥) → (tickOutcome d x J ≡ refused d (tickNumber d x J)) × (tickJournal d x J ≡ J)
+  pub tick-no : (tickRefusal d x J ≡ 0 → ⊥) → (tickOutcome d x J ≡ refused d (tickRefusal d x J)) × (tickJournal d x J ≡ J)
   unfolding tickOutcome tickJournal
   tick-no e = (rw (ne-eqb _ _ e), rw (ne-eqb _ _ e))
 

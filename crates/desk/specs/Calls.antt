@@ -5,14 +5,15 @@ use mathlib.Core.Bool.{not, cond}
 use lib.Dec.{leb, ltb, eqb}
 use lib.ListN.{length}
 use Rattle.layout.specs.Layout.{written}
-use Rattle.refusal.specs.Refusal.{badCard, badDesk, shortJournal, fullJournal, backTooFar, badRecord}
+use Rattle.refusal.specs.Refusal.{badCard, badDesk, shortJournal, fullJournal, backTooFar, badRecord, firstRefusal}
 use Rattle.card.specs.declared.Card.{Card}
 use Rattle.card.specs.Card.{cardInRange}
 use Rattle.record.specs.declared.Sample.{Sample}
 use Rattle.record.specs.Record.{recordWidth, recordBytes}
 use Rattle.record.specs.Sample.{sampleRefusal, sampleRecord}
 use Rattle.rules.specs.declared.Advanced.{Advanced}
-use Rattle.rules.specs.Tick.{noAnswer, advance}
+use Rattle.rules.specs.Answer.{noAnswer}
+use Rattle.rules.specs.Tick.{advance}
 use Rattle.rules.specs.After.{after}
 use Rattle.desk.specs.declared.Desk.{Desk}
 use Rattle.desk.specs.declared.Outcome.{Outcome}
@@ -35,34 +36,34 @@ accepted card n a = record { desk = record { card = card; n = n; state = a .stat
 unfoldable pub openOutcome : Card → Outcome
 openOutcome card = cond (not (cardInRange card)) (refused noDesk badCard) (begun card)
 
--- tick: 5, 6, 7, then 1, 2, 3 of the sample; `bytes` is the journal's length
-unfoldable pub tickRefusal : Desk → ℕ → ℕ → ℕ
-tickRefusal d ofSample bytes =
-    cond (not (deskInRange d)) badDesk
-    (cond (ltb bytes (recordWidth * d .n)) shortJournal
-    (cond (leb (capacity bytes) (d .n)) fullJournal ofSample))
+-- 5, 6: whether the desk, with a journal of so many bytes, is fit for a call
+unfoldable pub deskRefusal : Desk → ℕ → ℕ
+deskRefusal d bytes = cond (not (deskInRange d)) badDesk (cond (ltb bytes (recordWidth * d .n)) shortJournal 0)
+
+-- tick: 5, 6, 7, then 1, 2, 3 of the sample
+unfoldable pub tickRefusalOf : Desk → ℕ → ℕ → ℕ
+tickRefusalOf d ofSample bytes = firstRefusal (deskRefusal d bytes) (cond (leb (capacity bytes) (d .n)) fullJournal ofSample)
 
 module _ (d : Desk) (x : Sample) (journal : List ℕ) where
-  abbrev pub tickNumber : ℕ
-  tickNumber = tickRefusal d (sampleRefusal x) (length journal)
+  abbrev pub tickRefusal : ℕ
+  tickRefusal = tickRefusalOf d (sampleRefusal x) (length journal)
 
   unfoldable pub tickOutcome : Outcome
   tickOutcome =
-      cond (eqb tickNumber 0) (accepted (d .card) (d .n + 1) (advance (d .card) (d .state) (sampleRecord x)))
-      (refused d tickNumber)
+      cond (eqb tickRefusal 0) (accepted (d .card) (d .n + 1) (advance (d .card) (d .state) (sampleRecord x)))
+      (refused d tickRefusal)
 
   -- the record is written to bytes 8n to 8n + 7, no other byte changes
   unfoldable pub tickJournal : List ℕ
-  tickJournal = cond (eqb tickNumber 0) (written journal (recordWidth * d .n) (recordBytes (sampleRecord x))) journal
+  tickJournal = cond (eqb tickRefusal 0) (written journal (recordWidth * d .n) (recordBytes (sampleRecord x))) journal
 
 -- step back: 5, 6, 8, 9
 module _ (d : Desk) (k : ℕ) (journal : List ℕ) where
   unfoldable pub backRefusal : ℕ
   backRefusal =
-      cond (not (deskInRange d)) badDesk
-      (cond (ltb (length journal) (recordWidth * d .n)) shortJournal
+      firstRefusal (deskRefusal d (length journal))
       (cond (ltb (d .n) k) backTooFar
-      (cond (not (allInRange journal (d .n - k))) badRecord 0)))
+      (cond (not (allInRange journal (d .n - k))) badRecord 0))
 
   -- rebuilt from the first n − k records
   unfoldable pub backOutcome : Outcome

@@ -2,7 +2,7 @@
 ghost use mathlib.Core.Path.{_≡_};
 ghost use lib.ListN.{length};
 ghost use Rattle.desk.specs.Desk.{deskInRange, freshDesk, noDesk};
-ghost use Rattle.desk.specs.Calls.{refused, begun, accepted, openOutcome, tickRefusal, tickOutcome, tickJournal, backRefusal, backOutcome, restartOutcome};
+ghost use Rattle.desk.specs.Calls.{refused, begun, accepted, openOutcome, deskRefusal, tickRefusalOf, tickOutcome, tickJournal, backRefusal, backOutcome, restartOutcome};
 use card::Card;
 use record::RECORD_WIDTH;
 use record::Sample;
@@ -104,18 +104,28 @@ fn accepted(card: Card, n: u16, a: Advanced) -> Outcome
     }
 }
 
-// The number of a tick's refusal: `sample` is that of its sample, `length` the journal's.
-fn tick_refusal(d: Desk, sample: u8, length: usize) -> u8
-    ensures { λ x. ⌜ x ≡ tickRefusal d sample length ⌝ }
+// 5, 6: `length` is the journal's.
+fn desk_refusal(d: Desk, length: usize) -> u8
+    ensures { λ x. ⌜ x ≡ deskRefusal d length ⌝ }
 {
     if !desk_in_range(d) {
         return refusal::BAD_DESK;
     }
-    let n = d.n as usize;
-    if length < RECORD_WIDTH * n {
+    if length < RECORD_WIDTH * (d.n as usize) {
         return refusal::SHORT_JOURNAL;
     }
-    if journal::capacity(length) <= n {
+    0
+}
+
+// The number of a tick's refusal: `sample` is that of its sample, `length` the journal's.
+fn tick_refusal_of(d: Desk, sample: u8, length: usize) -> u8
+    ensures { λ x. ⌜ x ≡ tickRefusalOf d sample length ⌝ }
+{
+    let first = desk_refusal(d, length);
+    if first != 0 {
+        return first;
+    }
+    if journal::capacity(length) <= d.n as usize {
         return refusal::FULL_JOURNAL;
     }
     sample
@@ -124,13 +134,11 @@ fn tick_refusal(d: Desk, sample: u8, length: usize) -> u8
 fn back_refusal(d: Desk, k: u32, journal: &[u8]) -> u8
     ensures { λ x. ⌜ x ≡ backRefusal d k (now (journal .entry)) ⌝ }
 {
-    if !desk_in_range(d) {
-        return refusal::BAD_DESK;
+    let first = desk_refusal(d, journal.len());
+    if first != 0 {
+        return first;
     }
     let n = d.n as u32;
-    if journal.len() < RECORD_WIDTH * (n as usize) {
-        return refusal::SHORT_JOURNAL;
-    }
     if n < k {
         return refusal::BACK_TOO_FAR;
     }
@@ -155,7 +163,7 @@ impl Desk {
         ensures journal { λ x. ⌜ now (journal .exit) ≡ tickJournal self sample (now (journal .entry)) ⌝ }
     {
         let taken = record::take_sample(sample);
-        let refusal = tick_refusal(self, taken.refusal, journal.len());
+        let refusal = tick_refusal_of(self, taken.refusal, journal.len());
         if refusal != 0 {
             return refused(self, refusal);
         }

@@ -17,19 +17,20 @@ use Rattle.signal.specs.Man.{manLowered}
 use Rattle.signal.specs.Curve.{ageNow, curveHolds, manStarts, curveAged, manStarted}
 use Rattle.signal.specs.Aspect.{aspectNow}
 use Rattle.vigilance.specs.Watch.{asksIncreased, asksOrdinary, watchKind, cycleLength, watchLapses, watchTicks, watchPrompts}
-use Rattle.vigilance.specs.Once.{lead, exceeds, onceLapses, onceStays, asksAhead, asksAtStart, onceTicks, onceKind, givenNext}
+use Rattle.vigilance.specs.Once.{lead, exceeds, onceLapses, onceStays, dueAhead, dueAtStart, asksAhead, asksAtStart, onceTicks, onceKind, givenNext}
 use Rattle.causes.specs.Held.{heldIn, maskOf, also, listed, firstOr, lowest, howMany}
 use Rattle.causes.specs.Direction.{agrees, wrongwayNow, wrongwayTriggers}
 use Rattle.causes.specs.Standing.{counted, standingNow, standingTriggers, standingSounds}
 use Rattle.causes.specs.Keeping.{released, kept, wrongwayLeft}
 use Rattle.state.specs.Mode.{modeNow, entered}
 use Rattle.rules.specs.Permitted.{ceiling, permitted}
-use Rattle.rules.specs.Tick.{aspectIn, permittedIn, kindIn, cyclicIn, oneTimeIn, movedIn, stoodIn, triggersIn, releasesIn, heldNext, wrongwayNext, marks, stateNext, answerNow, ticked, advance}
+use Rattle.rules.specs.Answer.{marks}
+use Rattle.rules.specs.Tick.{aspectIn, permittedIn, kindIn, cyclicIn, oneTimeIn, movedIn, stoodIn, triggersIn, releasesIn, heldNext, wrongwayNext, stateNext, answerNow, ticked, advance}
 use Rattle.rules.specs.After.{after}
 use Rattle.examples.specs.Drive.{ticks, drive, taken, atEnd}
 use Rattle.examples.specs.Rows.{rows}
 
 -- with `[]` and `_∷_` in scope, a refusal of a short table shows the numbers that differ
 pub rows-hold : map (λ row. row .what) rows ≡ map (λ row. row .is) rows
-unfolding rows ticks drive taken atEnd ofBits quantity speedAt speedOf speedValue cardInRange recordInRange pressed keysOf target curveValue signalSpeed gapMan manByCode curveBegins curveByCode gapCodeNext gapNext raiseByCode raiseNext codesNext manLowered ageNow curveHolds manStarts curveAged manStarted aspectNow asksIncreased asksOrdinary watchKind cycleLength watchLapses watchTicks watchPrompts lead exceeds onceLapses onceStays asksAhead asksAtStart onceTicks onceKind givenNext heldIn maskOf also listed firstOr lowest howMany agrees wrongwayNow wrongwayTriggers counted standingNow standingTriggers standingSounds released kept wrongwayLeft modeNow entered ceiling permitted aspectIn permittedIn kindIn cyclicIn oneTimeIn movedIn stoodIn triggersIn releasesIn heldNext wrongwayNext marks stateNext answerNow ticked advance after
+unfolding rows ticks drive taken atEnd ofBits quantity speedAt speedOf speedValue cardInRange recordInRange pressed keysOf target curveValue signalSpeed gapMan manByCode curveBegins curveByCode gapCodeNext gapNext raiseByCode raiseNext codesNext manLowered ageNow curveHolds manStarts curveAged manStarted aspectNow asksIncreased asksOrdinary watchKind cycleLength watchLapses watchTicks watchPrompts lead exceeds onceLapses onceStays dueAhead dueAtStart asksAhead asksAtStart onceTicks onceKind givenNext heldIn maskOf also listed firstOr lowest howMany agrees wrongwayNow wrongwayTriggers counted standingNow standingTriggers standingSounds released kept wrongwayLeft modeNow entered ceiling permitted aspectIn permittedIn kindIn cyclicIn oneTimeIn movedIn stoodIn triggersIn releasesIn heldNext wrongwayNext marks stateNext answerNow ticked advance after
 rows-hold = refl

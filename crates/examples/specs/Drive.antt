@@ -61,7 +61,7 @@ unfoldable pub drive : Runs → ℕ → Record
 drive [] place = stands none
 drive (run ∷ runs) place = cond (ltb place (run .0)) (run .1) (drive runs (place - run .0))
 
--- card and records are in range, so that no tick is refused
+-- card and records are in range
 unfoldable pub taken : Runs → Bool
 taken [] = cardInRange cardK
 taken (run ∷ runs) = recordInRange (run .1) && taken runs

@@ -23,8 +23,8 @@ abbrev row : {A : Type 0} → A → List ((A → ℕ) × ℕ) → Row
 row thing claims = record { what = map (λ claim. claim .0 thing) claims; is = map (λ claim. claim .1) claims }
 
 -- claims about the end of a drive, whose ticks are all taken
-abbrev driven : Runs → List ((Advanced → ℕ) × ℕ) → Row
-driven runs claims = row (atEnd runs) ((λ x. cond (taken runs) 1 0, 1) ∷ claims)
+abbrev ends : Runs → List ((Advanced → ℕ) × ℕ) → Row
+ends runs claims = row (atEnd runs) ((λ x. cond (taken runs) 1 0, 1) ∷ claims)
 
 -- ---- looks at a float in m/s: the fraction that it is; v
 abbrev numerator : Float → ℕ
@@ -36,7 +36,7 @@ denominator x = quantity 0 (λ n d. d) x
 abbrev tenths : Float → ℕ
 tenths x = speedValue (speedOf x)
 
--- ---- looks at the answer: P, T, marks, causes, lowest cause
+-- ---- looks at the answer: P; T; marks, where a curve is 2, a one-time prompt 8 and its kind 1 adds 16; causes, where NZ2 is 2 and NZ3 is 4; lowest cause
 abbrev permitted : Advanced → ℕ
 permitted x = x .answer .permitted
 
@@ -51,23 +51,6 @@ causes x = x .answer .causes
 
 abbrev lowest : Advanced → ℕ
 lowest x = x .answer .lowest
-
--- in the marks: a curve, a one-time prompt, its kind 1
-abbrev curveMark : ℕ
-curveMark = 2
-
-abbrev promptMark : ℕ
-promptMark = 8
-
-abbrev kindMark : ℕ
-kindMark = 16
-
--- in the causes
-abbrev nz2 : ℕ
-nz2 = 2
-
-abbrev nz3 : ℕ
-nz3 = 4
 
 -- ---- looks at the state: V0, c and w of the curve; M; kind and q of cyclic vigilance
 abbrev start : Advanced → ℕ
@@ -125,9 +108,9 @@ clearAt v = (10, stands clear) ∷ (1, drives v clear) ∷ []
 abbrev wrongWay : ℕ → ℕ → Runs
 wrongWay v n = (10, stands clear) ∷ (n, backs v clear) ∷ []
 
--- Warning without a curve at 1000, until the count of increased vigilance is q
-abbrev increased : ℕ → Runs
-increased q = (10, stands warning) ∷ (1 + q, drives 1000 warning) ∷ []
+-- Warning without a curve at 1000, until the count of underIncreased vigilance is q
+abbrev underIncreased : ℕ → Runs
+underIncreased q = (10, stands warning) ∷ (1 + q, drives 1000 warning) ∷ []
 
 -- the same, then a press
 abbrev pressedAt : ℕ → Runs
@@ -144,8 +127,8 @@ exercise =
     ∷ []
 
 abbrev line : Runs → ℕ → ℕ → ℕ → ℕ → ℕ → Row
-line runs n p t held first =
-    driven runs ((λ x. ticks runs, n) ∷ (permitted, p) ∷ (target, t) ∷ (causes, held) ∷ (lowest, first) ∷ [])
+line runs n p t mask first =
+    ends runs ((λ x. ticks runs, n) ∷ (permitted, p) ∷ (target, t) ∷ (causes, mask) ∷ (lowest, first) ∷ [])
 
 -- ---- the table, in the paper's order
 unfoldable pub rows : List Row
@@ -154,36 +137,36 @@ rows =
     row (floatOfBits 0x3e000000) ((numerator, 1) ∷ (denominator, 8) ∷ (tenths, 5) ∷ [])
     ∷ row (floatOfBits 0x41200000) ((numerator, 10) ∷ (denominator, 1) ∷ (tenths, 360) ∷ [])
     -- "Clear to Warning: 1201 at age 222, ends at 223": P is the signal speed where that is below 1400
-    ∷ driven (clearTo warning 222) ((age, 222) ∷ (permitted, 1201) ∷ (marks, curveMark) ∷ [])
-    ∷ driven (clearTo warning 223) ((start, 0) ∷ (permitted, 1200) ∷ (marks, 0) ∷ [])
+    ∷ ends (clearTo warning 222) ((age, 222) ∷ (permitted, 1201) ∷ (marks, 2) ∷ [])
+    ∷ ends (clearTo warning 223) ((start, 0) ∷ (permitted, 1200) ∷ (marks, 0) ∷ [])
     -- "Clear to Stop: 2 at 888, ends at 889"
-    ∷ driven (clearTo stop 888) ((age, 888) ∷ (permitted, 2) ∷ (marks, curveMark) ∷ [])
-    ∷ driven (clearTo stop 889) ((start, 0) ∷ (permitted, 0) ∷ (marks, 0) ∷ [])
+    ∷ ends (clearTo stop 888) ((age, 888) ∷ (permitted, 2) ∷ (marks, 2) ∷ [])
+    ∷ ends (clearTo stop 889) ((start, 0) ∷ (permitted, 0) ∷ (marks, 0) ∷ [])
     -- "v 1200, Clear to Stop: start prompt, then D first true at age 140": D(c + R) gives the prompt of kind 1 and sets w
-    ∷ driven (toStop 1200 0) ((age, 0) ∷ (marks, curveMark + promptMark) ∷ (given, 0) ∷ [])
-    ∷ driven (confirmed 1200 139) ((age, 139) ∷ (marks, curveMark) ∷ (given, 0) ∷ [])
-    ∷ driven (confirmed 1200 140) ((age, 140) ∷ (marks, curveMark + promptMark + kindMark) ∷ (given, 1) ∷ [])
+    ∷ ends (toStop 1200 0) ((age, 0) ∷ (marks, 10) ∷ (given, 0) ∷ [])
+    ∷ ends (confirmed 1200 139) ((age, 139) ∷ (marks, 2) ∷ (given, 0) ∷ [])
+    ∷ ends (confirmed 1200 140) ((age, 140) ∷ (marks, 26) ∷ (given, 1) ∷ [])
     -- "v 1400: age 29, no start prompt"
-    ∷ driven (toStop 1400 0) ((age, 0) ∷ (marks, curveMark) ∷ (given, 0) ∷ [])
-    ∷ driven (toStop 1400 28) ((age, 28) ∷ (marks, curveMark) ∷ (given, 0) ∷ [])
-    ∷ driven (toStop 1400 29) ((age, 29) ∷ (marks, curveMark + promptMark + kindMark) ∷ (given, 1) ∷ [])
+    ∷ ends (toStop 1400 0) ((age, 0) ∷ (marks, 2) ∷ (given, 0) ∷ [])
+    ∷ ends (toStop 1400 28) ((age, 28) ∷ (marks, 2) ∷ (given, 0) ∷ [])
+    ∷ ends (toStop 1400 29) ((age, 29) ∷ (marks, 26) ∷ (given, 1) ∷ [])
     -- "MAN entered at 1350, then 1300, 1320, 1100, 1250: M is 1350, 1300, 1300, 1200, 1200 (Stop)"
-    ∷ driven (underMan 1350 []) ((manSpeed, 1350) ∷ [])
-    ∷ driven (underMan 1350 (1300 ∷ [])) ((manSpeed, 1300) ∷ [])
-    ∷ driven (underMan 1350 (1300 ∷ 1320 ∷ [])) ((manSpeed, 1300) ∷ [])
-    ∷ driven (underMan 1350 (1300 ∷ 1320 ∷ 1100 ∷ [])) ((manSpeed, 1200) ∷ [])
-    ∷ driven (underMan 1350 (1300 ∷ 1320 ∷ 1100 ∷ 1250 ∷ [])) ((manSpeed, 1200) ∷ [])
+    ∷ ends (underMan 1350 []) ((manSpeed, 1350) ∷ [])
+    ∷ ends (underMan 1350 (1300 ∷ [])) ((manSpeed, 1300) ∷ [])
+    ∷ ends (underMan 1350 (1300 ∷ 1320 ∷ [])) ((manSpeed, 1300) ∷ [])
+    ∷ ends (underMan 1350 (1300 ∷ 1320 ∷ 1100 ∷ [])) ((manSpeed, 1200) ∷ [])
+    ∷ ends (underMan 1350 (1300 ∷ 1320 ∷ 1100 ∷ 1250 ∷ [])) ((manSpeed, 1200) ∷ [])
     -- "P 1400: 1430 passes, 1431 triggers"
-    ∷ driven (clearAt 1430) ((permitted, 1400) ∷ (causes, 0) ∷ [])
-    ∷ driven (clearAt 1431) ((permitted, 1400) ∷ (causes, nz2) ∷ [])
+    ∷ ends (clearAt 1430) ((permitted, 1400) ∷ (causes, 0) ∷ [])
+    ∷ ends (clearAt 1431) ((permitted, 1400) ∷ (causes, 2) ∷ [])
     -- "Wrong way at 360: tick 10 triggers, 9 not"
-    ∷ driven (wrongWay 360 10) ((causes, nz3) ∷ [])
-    ∷ driven (wrongWay 360 9) ((causes, 0) ∷ [])
+    ∷ ends (wrongWay 360 10) ((causes, 4) ∷ [])
+    ∷ ends (wrongWay 360 9) ((causes, 0) ∷ [])
     -- "Increased: press at old q 84 ignored, 85 taken"
-    ∷ driven (increased 84) ((kind, 2) ∷ (count, 84) ∷ [])
-    ∷ driven (pressedAt 84) ((kind, 2) ∷ (count, 85) ∷ [])
-    ∷ driven (increased 85) ((kind, 2) ∷ (count, 85) ∷ [])
-    ∷ driven (pressedAt 85) ((kind, 2) ∷ (count, 0) ∷ [])
+    ∷ ends (underIncreased 84) ((kind, 2) ∷ (count, 84) ∷ [])
+    ∷ ends (pressedAt 84) ((kind, 2) ∷ (count, 85) ∷ [])
+    ∷ ends (underIncreased 85) ((kind, 2) ∷ (count, 85) ∷ [])
+    ∷ ends (pressedAt 85) ((kind, 2) ∷ (count, 0) ∷ [])
     -- the lines that the exercise prints
     ∷ line (take 1 exercise) 10 1400 1600 0 0
     ∷ line (take 2 exercise) 110 1400 1600 0 0

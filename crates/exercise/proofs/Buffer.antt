@@ -12,7 +12,8 @@ use Rattle.layout.proofs.Written.{written-append}
 use Rattle.card.specs.declared.Card.{Card}
 use Rattle.record.specs.declared.Record.{Record}
 use Rattle.rules.specs.After.{after}
-use Rattle.exercise.specs.Answers.{answerWidth, answerBytes, answers}
+use Rattle.rules.specs.Answer.{answerWidth, answerBytes}
+use Rattle.exercise.specs.Answers.{answers}
 
 module _ (card : Card) (H : ℕ → Record) where
   pub answers-next : (m : ℕ) → answers card H (m + 1) ≡ answers card H m ++ answerBytes (after card H (m + 1) .answer)

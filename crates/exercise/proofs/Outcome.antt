@@ -18,10 +18,11 @@ use Rattle.refusal.proofs.First.{both-zero, first-zero, first-some}
 use Rattle.file.specs.declared.Ran.{Ran}
 use Rattle.file.specs.File.{cardCount, runCount, cardIn}
 use Rattle.file.specs.Runs.{runsRefusal}
-use Rattle.file.specs.Read.{tickCount, drive, cardsRefusal}
+use Rattle.file.specs.Read.{tickCount, drive, headRefusal}
 use Rattle.file.proofs.Reader.{runs, cards-good}
-use Rattle.exercise.specs.Answers.{answerWidth, answers}
-use Rattle.exercise.specs.Run.{runRefusal, runOutcome, runBuffer}
+use Rattle.rules.specs.Answer.{answerWidth}
+use Rattle.exercise.specs.Answers.{answers}
+use Rattle.exercise.specs.Run.{exerciseRefusal, exerciseOutcome, exerciseBuffer}
 
 -- a number that is given where a test fails
 zero-of : (b : Bool) (k : ℕ) → 0 < k → cond b 0 k ≡ 0 → b ≡ true
@@ -30,46 +31,46 @@ zero-of false k h e = absurd (omega arith)
 
 module _ (file : List ℕ) (card room : ℕ) where
   module _ (number : ℕ) (some : number ≡ 0 → ⊥) where
-    run-refused : runRefusal file card room ≡ number → runOutcome file card room ≡ record { refusal = number; ticks = 0 }
-    unfolding runOutcome
+    run-refused : exerciseRefusal file card room ≡ number → exerciseOutcome file card room ≡ record { refusal = number; ticks = 0 }
+    unfolding exerciseOutcome
     run-refused e = rw (e, ne-eqb _ _ some)
 
-  pub run-by-cards : (cardsRefusal file ≡ 0 → ⊥) → runOutcome file card room ≡ record { refusal = cardsRefusal file; ticks = 0 }
-  unfolding runRefusal
+  pub run-by-cards : (headRefusal file ≡ 0 → ⊥) → exerciseOutcome file card room ≡ record { refusal = headRefusal file; ticks = 0 }
+  unfolding exerciseRefusal
   run-by-cards h = run-refused _ h (first-some _ _ h)
 
-  module _ (h : cardsRefusal file ≡ 0) where
-    no-card : (leb 1 card && leb card (cardCount file)) ≡ false → runOutcome file card room ≡ record { refusal = noSuchCard; ticks = 0 }
-    unfolding runRefusal
+  module _ (h : headRefusal file ≡ 0) where
+    no-card : (leb 1 card && leb card (cardCount file)) ≡ false → exerciseOutcome file card room ≡ record { refusal = noSuchCard; ticks = 0 }
+    unfolding exerciseRefusal
     no-card e = run-refused noSuchCard (λ z. omega arith) (rw (h, first-zero, e) (first-some noSuchCard _ (λ z. omega arith)))
 
-    pub run-by-low : card < 1 → runOutcome file card room ≡ record { refusal = noSuchCard; ticks = 0 }
+    pub run-by-low : card < 1 → exerciseOutcome file card room ≡ record { refusal = noSuchCard; ticks = 0 }
     run-by-low l = no-card (rw (lt-leb 1 card l))
 
-    pub run-by-high : cardCount file < card → runOutcome file card room ≡ record { refusal = noSuchCard; ticks = 0 }
+    pub run-by-high : cardCount file < card → exerciseOutcome file card room ≡ record { refusal = noSuchCard; ticks = 0 }
     run-by-high l = no-card (rw (lt-leb card (cardCount file) l) (and-false (leb 1 card)))
 
     module _ (low : 1 ≤ card) (high : card ≤ cardCount file) where
-      pub run-by-runs : (runs file ≡ 0 → ⊥) → runOutcome file card room ≡ record { refusal = runs file; ticks = 0 }
-      unfolding runRefusal
+      pub run-by-runs : (runs file ≡ 0 → ⊥) → exerciseOutcome file card room ≡ record { refusal = runs file; ticks = 0 }
+      unfolding exerciseRefusal
       run-by-runs k = run-refused _ k (rw (h, first-zero, le-leb _ _ low, le-leb _ _ high, first-zero) (first-some _ _ k))
 
       module _ (k : runs file ≡ 0) where
-        pub run-by-room : room < answerWidth * tickCount file → runOutcome file card room ≡ record { refusal = shortBuffer; ticks = 0 }
-        unfolding runRefusal
+        pub run-by-room : room < answerWidth * tickCount file → exerciseOutcome file card room ≡ record { refusal = shortBuffer; ticks = 0 }
+        unfolding exerciseRefusal
         run-by-room l =
             run-refused shortBuffer (λ z. omega arith)
             (rw (h, first-zero, le-leb _ _ low, le-leb _ _ high, first-zero, k, first-zero, lt-ltb _ _ l))
 
-        pub run-by-none : answerWidth * tickCount file ≤ room → runOutcome file card room ≡ record { refusal = 0; ticks = tickCount file }
-        unfolding runRefusal runOutcome
+        pub run-by-none : answerWidth * tickCount file ≤ room → exerciseOutcome file card room ≡ record { refusal = 0; ticks = tickCount file }
+        unfolding exerciseRefusal exerciseOutcome
         run-by-none l = rw (h, first-zero, le-leb _ _ low, le-leb _ _ high, first-zero, k, first-zero, le-ltb _ _ l)
 
-  pub run-number : runOutcome file card room .refusal ≡ runRefusal file card room
-  unfolding runOutcome
-  run-number = go (eqb (runRefusal file card room) 0) refl
+  pub run-number : exerciseOutcome file card room .refusal ≡ exerciseRefusal file card room
+  unfolding exerciseOutcome
+  run-number = go (eqb (exerciseRefusal file card room) 0) refl
     where
-      go : (b : Bool) → eqb (runRefusal file card room) 0 ≡ b → runOutcome file card room .refusal ≡ runRefusal file card room
+      go : (b : Bool) → eqb (exerciseRefusal file card room) 0 ≡ b → exerciseOutcome file card room .refusal ≡ exerciseRefusal file card room
       go true e = rw e (sym (eqb-true _ 0 e))
       go false e = rw e
 
@@ -81,10 +82,10 @@ pub record RunTaken (file : List ℕ) (card room : ℕ) : Type 0 where
   pub runs-good : runsRefusal file (runCount file) ≡ 0
   pub fits : answerWidth * tickCount file ≤ room
 
-pub run-taken : (file : List ℕ) (card room : ℕ) → runRefusal file card room ≡ 0 → RunTaken file card room
-unfolding runRefusal
+pub run-taken : (file : List ℕ) (card room : ℕ) → exerciseRefusal file card room ≡ 0 → RunTaken file card room
+unfolding exerciseRefusal
 run-taken file card room e =
-    let a = both-zero (cardsRefusal file) _ e in
+    let a = both-zero (headRefusal file) _ e in
     let b = both-zero (cond (leb 1 card && leb card (cardCount file)) 0 noSuchCard) _ (a .1) in
     let c = both-zero (runsRefusal file (runCount file)) _ (b .1) in
     let there = and-iff (leb 1 card) (leb card (cardCount file)) .0 (zero-of (leb 1 card && leb card (cardCount file)) noSuchCard (omega arith) (b .0)) in
@@ -103,11 +104,11 @@ run-taken file card room e =
     room-left false e = refl
 
 module _ (file : List ℕ) (card : ℕ) (buffer : List ℕ) where
-  pub buffer-yes : runRefusal file card (length buffer) ≡ 0 →
-      runBuffer file card buffer ≡ written buffer 0 (answers (cardIn file (card - 1)) (drive file) (tickCount file))
-  unfolding runBuffer
+  pub buffer-yes : exerciseRefusal file card (length buffer) ≡ 0 →
+      exerciseBuffer file card buffer ≡ written buffer 0 (answers (cardIn file (card - 1)) (drive file) (tickCount file))
+  unfolding exerciseBuffer
   buffer-yes e = rw (eq-eqb _ _ e)
 
-  pub buffer-no : (runRefusal file card (length buffer) ≡ 0 → ⊥) → runBuffer file card buffer ≡ buffer
-  unfolding runBuffer
+  pub buffer-no : (exerciseRefusal file card (length buffer) ≡ 0 → ⊥) → exerciseBuffer file card buffer ≡ buffer
+  unfolding exerciseBuffer
   buffer-no e = rw (ne-eqb _ _ e)

@@ -19,7 +19,8 @@ use Rattle.desk.specs.declared.Outcome.{Outcome}
 use Rattle.journal.specs.Journal.{records}
 use Rattle.desk.specs.Calls.{backRefusal, backOutcome}
 use Rattle.desk.proofs.Calls.{back-yes}
-use Rattle.exercise.specs.Answers.{answerWidth, answerBytes, answers}
+use Rattle.rules.specs.Answer.{answerWidth, answerBytes}
+use Rattle.exercise.specs.Answers.{answers}
 use Rattle.exercise.proofs.Buffer.{answers-length}
 
 -- the eight bytes of the tick after j others

@@ -7,8 +7,9 @@ ghost use Rattle.card.specs.Card.{CardRanges};
 ghost use Rattle.file.specs.File.{runCount};
 ghost use Rattle.file.specs.Runs.{runsRefusal};
 ghost use Rattle.file.specs.Read.{tickCount, drive};
-ghost use Rattle.exercise.specs.Answers.{answerWidth, answerBytes, answers};
-ghost use Rattle.exercise.specs.Run.{runOutcome, runBuffer};
+ghost use Rattle.rules.specs.Answer.{answerWidth, answerBytes};
+ghost use Rattle.exercise.specs.Answers.{answers};
+ghost use Rattle.exercise.specs.Run.{exerciseOutcome, exerciseBuffer};
 use card::CARD_WIDTH;
 use card::Card;
 use file::Ran;
@@ -18,10 +19,10 @@ use rules::Advanced;
 const ANSWER_WIDTH: usize = 8;
 
 // The outcome of a run into a buffer of so many bytes.
-fn run_outcome(file: &[u8], card: u32, room: usize) -> Ran
-    ensures { λ x. ⌜ x ≡ runOutcome (now (file .entry)) card room ⌝ }
+fn exercise_outcome(file: &[u8], card: u32, room: usize) -> Ran
+    ensures { λ x. ⌜ x ≡ exerciseOutcome (now (file .entry)) card room ⌝ }
 {
-    let refusal = file::cards_refusal(file);
+    let refusal = file::head_refusal(file);
     if refusal != 0 {
         return Ran {
             refusal: refusal,
@@ -60,14 +61,18 @@ fn put_answer(buffer: &mut [u8], at: usize, tick: Advanced)
 {
     let p = tick.answer.permitted;
     let t = tick.answer.target;
-    buffer[at] = (p % 256) as u8;
-    buffer[at + 1] = (p / 256 % 256) as u8;
-    buffer[at + 2] = (t % 256) as u8;
-    buffer[at + 3] = (t / 256 % 256) as u8;
-    buffer[at + 4] = tick.answer.marks;
-    buffer[at + 5] = tick.answer.causes;
-    buffer[at + 6] = tick.answer.lowest;
-    buffer[at + 7] = tick.answer.held;
+    layout::put_eight(
+        buffer,
+        at,
+        (p % 256) as u8,
+        (p / 256 % 256) as u8,
+        (t % 256) as u8,
+        (t / 256 % 256) as u8,
+        tick.answer.marks,
+        tick.answer.causes,
+        tick.answer.lowest,
+        tick.answer.held,
+    );
 }
 
 // Drives the runs of a file that was read, from a fresh state, and writes the answers of their ticks.
@@ -95,10 +100,10 @@ fn answer_all(file: &[u8], card: Card, buffer: &mut [u8])
 
 // Runs the exercise under a card, counted from 1, into the buffer: eight bytes a tick.
 pub fn run(file: &[u8], card: u32, buffer: &mut [u8]) -> Ran
-    ensures outcome { λ x. ⌜ x ≡ runOutcome (now (file .entry)) card (length (now (buffer .entry))) ⌝ }
-    ensures buffer { λ x. ⌜ now (buffer .exit) ≡ runBuffer (now (file .entry)) card (now (buffer .entry)) ⌝ }
+    ensures outcome { λ x. ⌜ x ≡ exerciseOutcome (now (file .entry)) card (length (now (buffer .entry))) ⌝ }
+    ensures buffer { λ x. ⌜ now (buffer .exit) ≡ exerciseBuffer (now (file .entry)) card (now (buffer .entry)) ⌝ }
 {
-    let ran = run_outcome(file, card, buffer.len());
+    let ran = exercise_outcome(file, card, buffer.len());
     if ran.refusal != 0 {
         return ran;
     }

@@ -13,7 +13,7 @@ use Rattle.file.specs.File.{headerGood, cardCount, runCount, cardsInRang
 use Rattle.file.specs.Runs.{ticksTo, runsRefusal}
 use Rattle.file.specs.declared.Ran.{Ran}
 use Rattle.file.proofs.Runs.{fault, runs-first}
-use Rattle.file.specs.Read.{tickCount, runsRead, cardsRefusal, readRefusal, readOutcome}
+use Rattle.file.specs.Read.{tickCount, runsRead, headRefusal, readRefusal, readOutcome}
 
 zero-if : (b : Bool) (k x : ℕ) → 0 < k → cond (not b) k x ≡ 0 → (b ≡ true) × (x ≡ 0)
 zero-if true k x h e = (refl, e)
@@ -54,18 +54,18 @@ module _ (file : List ℕ) where
       ap (λ (x : ℕ). record { refusal = 0; ticks = x }) (e ∙ ap (ticksTo file) at) ∙ sym (runs-yes (rw at at h))
 
   -- ---- the reader
-  pub read-by-cards : (cardsRefusal file ≡ 0 → ⊥) → readOutcome file ≡ record { refusal = cardsRefusal file; cards = 0; runs = 0; ticks = 0 }
+  pub read-by-cards : (headRefusal file ≡ 0 → ⊥) → readOutcome file ≡ record { refusal = headRefusal file; cards = 0; runs = 0; ticks = 0 }
   unfolding readOutcome readRefusal
   read-by-cards h = rw (first-some _ _ h, ne-eqb _ _ h)
 
-  pub read-by-runs : cardsRefusal file ≡ 0 → (runs ≡ 0 → ⊥) → readOutcome file ≡ record { refusal = runs; cards = 0; runs = 0; ticks = 0 }
+  pub read-by-runs : headRefusal file ≡ 0 → (runs ≡ 0 → ⊥) → readOutcome file ≡ record { refusal = runs; cards = 0; runs = 0; ticks = 0 }
   unfolding readOutcome readRefusal
   read-by-runs h k = rw (h, first-zero, ne-eqb _ _ k)
 
-  pub read-by-none : cardsRefusal file ≡ 0 → runs ≡ 0 → readOutcome file ≡ record { refusal = 0; cards = cardCount file; runs = runCount file; ticks = tickCount file }
+  pub read-by-none : headRefusal file ≡ 0 → runs ≡ 0 → readOutcome file ≡ record { refusal = 0; cards = cardCount file; runs = runCount file; ticks = tickCount file }
   unfolding readOutcome readRefusal
   read-by-none h k = rw (h, first-zero, k)
 
-  pub cards-good : cardsRefusal file ≡ 0 → cardsInRange file (cardCount file) ≡ true
-  unfolding cardsRefusal
+  pub cards-good : headRefusal file ≡ 0 → cardsInRange file (cardCount file) ≡ true
+  unfolding headRefusal
   cards-good h = zero-if (cardsInRange file (cardCount file)) badCard 0 (omega arith) (zero-if (headerGood file) badFile _ (omega arith) h .1) .0

@@ -16,8 +16,11 @@ abbrev pub headerWidth : ℕ
 headerWidth = 10
 
 -- ticks (u16), record
+abbrev pub ticksWidth : ℕ
+ticksWidth = 2
+
 abbrev pub runWidth : ℕ
-runWidth = 2 + recordWidth
+runWidth = ticksWidth + recordWidth
 
 abbrev pub mostCards : ℕ
 mostCards = 8
@@ -56,7 +59,7 @@ module _ (file : List ℕ) where
   runTicks j = u16At file (runsFrom + runWidth * j)
 
   unfoldable pub runRecord : ℕ → Record
-  runRecord j = recordAt file (runsFrom + runWidth * j + 2)
+  runRecord j = recordAt file (runsFrom + runWidth * j + ticksWidth)
 
 abbrev pub cardsInRange : List ℕ → ℕ → Bool
 cardsInRange file m = allBelow (λ i. cardInRange (cardIn file i)) m

@@ -24,13 +24,13 @@ module _ (file : List ℕ) where
       cond (eqb (runsRefusal file (runCount file)) 0) (record { refusal = 0; ticks = tickCount })
       (record { refusal = runsRefusal file (runCount file); ticks = 0 })
 
-  -- 10, 4 of any card
-  unfoldable pub cardsRefusal : ℕ
-  cardsRefusal = cond (not (headerGood file)) badFile (cond (not (cardsInRange file (cardCount file))) badCard 0)
+  -- before the runs: 10, then 4 of any card
+  unfoldable pub headRefusal : ℕ
+  headRefusal = cond (not (headerGood file)) badFile (cond (not (cardsInRange file (cardCount file))) badCard 0)
 
   -- the reader: 10, 4, the runs' 11 and 9
   unfoldable pub readRefusal : ℕ
-  readRefusal = firstRefusal cardsRefusal (runsRefusal file (runCount file))
+  readRefusal = firstRefusal headRefusal (runsRefusal file (runCount file))
 
   -- the counts, zeros if refused
   unfoldable pub readOutcome : Counts

@@ -4,7 +4,7 @@ ghost use Prim.Native.Nat.{_≤_};
 ghost use Rattle.record.specs.Record.{mostTicks};
 ghost use Rattle.file.specs.File.{headerGood, cardsInRange, runCount, runsFrom, runTicks, runRecord};
 ghost use Rattle.file.specs.Runs.{runFault};
-ghost use Rattle.file.specs.Read.{runsRead, cardsRefusal, readOutcome};
+ghost use Rattle.file.specs.Read.{runsRead, headRefusal, readOutcome};
 use card::CARD_WIDTH;
 use layout::u16_at;
 use record::RECORD_WIDTH;
@@ -18,7 +18,7 @@ pub struct Counts {
     pub ticks: u16,
 }
 
-// What a run came to: the number of its refusal, 0 where there is none, and its ticks.
+// What the runs, or a whole exercise, came to: the number of the refusal, 0 where there is none, and the ticks.
 pub struct Ran {
     pub refusal: u8,
     pub ticks: u16,
@@ -79,8 +79,8 @@ fn cards_in_range(file: &[u8], cards: usize) -> bool
     true
 }
 
-pub fn cards_refusal(file: &[u8]) -> u8
-    ensures { λ x. ⌜ x ≡ cardsRefusal (now (file .entry)) ⌝ }
+pub fn head_refusal(file: &[u8]) -> u8
+    ensures { λ x. ⌜ x ≡ headRefusal (now (file .entry)) ⌝ }
 {
     if !header_good(file) {
         return refusal::BAD_FILE;
@@ -155,7 +155,7 @@ pub fn runs_read(file: &[u8]) -> Ran
 pub fn read(file: &[u8]) -> Counts
     ensures { λ x. ⌜ x ≡ readOutcome (now (file .entry)) ⌝ }
 {
-    let refusal = cards_refusal(file);
+    let refusal = head_refusal(file);
     if refusal != 0 {
         return Counts {
             refusal: refusal,

@@ -1,7 +1,7 @@
 // The call that a host program links: host/foldharbor.h declares it for C and C++.
 ghost use mathlib.Core.Path.{_≡_};
 ghost use lib.ListN.{length};
-ghost use Rattle.exercise.specs.Run.{runOutcome, runBuffer};
+ghost use Rattle.exercise.specs.Run.{exerciseOutcome, exerciseBuffer};
 ghost use Rattle.host.specs.Host.{hostNumber};
 
 // A refusal is this plus its number.
@@ -9,8 +9,8 @@ const REFUSED: u32 = 10000;
 
 #[no_mangle]
 pub extern "C" fn foldharbor_run_exercise(exercise: &[u8], card: u32, answers: &mut [u8]) -> u32
-    ensures number { λ r. ⌜ r ≡ hostNumber (runOutcome (now (exercise .entry)) card (length (now (answers .entry)))) ⌝ }
-    ensures answers { λ r. ⌜ now (answers .exit) ≡ runBuffer (now (exercise .entry)) card (now (answers .entry)) ⌝ }
+    ensures number { λ r. ⌜ r ≡ hostNumber (exerciseOutcome (now (exercise .entry)) card (length (now (answers .entry)))) ⌝ }
+    ensures answers { λ r. ⌜ now (answers .exit) ≡ exerciseBuffer (now (exercise .entry)) card (now (answers .entry)) ⌝ }
 {
     let ran = exercise::run(exercise, card, answers);
     if ran.refusal != 0 {

@@ -1,4 +1,4 @@
--- Bytes at places of a list: a u16 with its low byte first, and what a list is once others are written over a part of it.
+-- Bytes at places of a list: a u16 with its low byte first, and a list with other bytes written over a part of it.
 use Prim.Native.Nat.{ℕ, _+_, _*_, _/_, _%_}
 use mathlib.Core.List.{List, [], _∷_, _++_}
 use lib.ListN.{length, getD, take, drop}

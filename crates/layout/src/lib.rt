@@ -1,8 +1,9 @@
-// Bytes at places of a slice. A place past the end holds 0, so no caller owes anything.
+// Bytes at places of a slice. A place past the end holds 0, so reading has no `requires`.
 ghost use mathlib.Core.Path.{_≡_};
-ghost use Prim.Native.Nat.{_+_};
-ghost use lib.ListN.{getD};
-ghost use Rattle.layout.specs.Layout.{u16At};
+ghost use mathlib.Core.List.{[], _∷_};
+ghost use Prim.Native.Nat.{_+_, _≤_};
+ghost use lib.ListN.{length, getD};
+ghost use Rattle.layout.specs.Layout.{u16At, written};
 
 // The byte `k` places after `at`.
 pub fn byte_at(bytes: &[u8], at: usize, k: usize) -> u8
@@ -27,4 +28,30 @@ pub fn u16_at(bytes: &[u8], at: usize, k: usize) -> u16
     let low = byte_at(bytes, at, k);
     let high = byte_at(bytes, at, k + 1);
     low as u16 + 256 * (high as u16)
+}
+
+// Writes eight bytes from `at`.
+pub fn put_eight(
+    bytes: &mut [u8],
+    at: usize,
+    a: u8,
+    b: u8,
+    c: u8,
+    d: u8,
+    e: u8,
+    f: u8,
+    g: u8,
+    h: u8,
+)
+    requires { ⌜ at + 8 ≤ length (now bytes) ⌝ }
+    ensures { λ _. ⌜ now (bytes .exit) ≡ written (now (bytes .entry)) at (a ∷ b ∷ c ∷ d ∷ e ∷ f ∷ g ∷ h ∷ []) ⌝ }
+{
+    bytes[at] = a;
+    bytes[at + 1] = b;
+    bytes[at + 2] = c;
+    bytes[at + 3] = d;
+    bytes[at + 4] = e;
+    bytes[at + 5] = f;
+    bytes[at + 6] = g;
+    bytes[at + 7] = h;
 }

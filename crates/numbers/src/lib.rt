@@ -15,7 +15,7 @@ pub fn greater(a: u16, b: u16) -> u16
     if a < b { b } else { a }
 }
 
-// What a yes or no weighs in a byte.
+// w if on, else 0.
 pub fn weight(on: bool, w: u8) -> u8
     ensures { λ r. ⌜ (r ≡ cond on w 0) × (r ≤ w) ⌝ }
 {

@@ -8,9 +8,13 @@ use Rattle.reading.specs.Number.{quantity}
 use Rattle.reading.specs.declared.Pressure.{Pressure}
 use Rattle.reading.specs.declared.Pressure.the-variants.{Band, Refused}
 
+-- the highest band
+abbrev pub topBand : ℕ
+topBand = 2
+
 -- "band 0 is below 3.5, band 1 from 3.5 to below 4.5, band 2 from 4.5", for n / d bar: 3.5 is 7/2 and 4.5 is 9/2
 unfoldable pub bandAt : ℕ → ℕ → ℕ
-bandAt n d = cond (ltb (2 * n) (7 * d)) 0 (cond (ltb (2 * n) (9 * d)) 1 2)
+bandAt n d = cond (ltb (2 * n) (7 * d)) 0 (cond (ltb (2 * n) (9 * d)) 1 topBand)
 
 -- "Pressure must lie from 0 to 10"
 unfoldable pub pressureAt : ℕ → ℕ → Pressure

@@ -7,11 +7,11 @@ use mathlib.Core.Bool.{Bool, true, false, cond}
 use Rattle.refusal.specs.Refusal.{badField}
 use Rattle.refusal.proofs.First.{both-zero}
 use Rattle.reading.specs.Speed.{topSpeed, speedOf, speedRefusal}
-use Rattle.reading.specs.Pressure.{pressureOf, pressureRefusal}
+use Rattle.reading.specs.Pressure.{topBand, pressureOf, pressureRefusal}
 use Rattle.reading.proofs.Bounds.{speed-value-most, pressure-band-most}
 use Rattle.record.specs.declared.Sample.{Sample}
 use Rattle.record.specs.declared.Record.{Record}
-use Rattle.record.specs.Record.{recordInRange, topBand}
+use Rattle.record.specs.Record.{recordInRange}
 use Rattle.record.specs.Sample.{recordRefusal, sampleRecord, sampleRefusal}
 
 zero-in-range : (r : Record) → recordRefusal r ≡ 0 → recordInRange r ≡ true

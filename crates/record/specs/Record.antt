@@ -5,6 +5,7 @@ use mathlib.Core.List.{List, [], _∷_, _++_}
 use lib.Dec.{leb}
 use lib.ListN.{length, getD}
 use Rattle.reading.specs.Speed.{topSpeed}
+use Rattle.reading.specs.Pressure.{topBand}
 use Rattle.layout.specs.Layout.{u16At, u16Bytes, written}
 use Rattle.record.specs.declared.Record.{Record}
 use Rattle.record.specs.Codes.{clear}
@@ -14,9 +15,6 @@ use Rattle.record.specs.Flags.{allFlags}
 -- lever and sense of motion: 0 none, 1 forward, 2 reverse
 abbrev pub reverse : ℕ
 reverse = 2
-
-abbrev pub topBand : ℕ
-topBand = 2
 
 pub record RecordRanges (r : Record) : Type 0 where
   pub v-most : r .v ≤ topSpeed

@@ -196,12 +196,16 @@ pub fn put_record(bytes: &mut [u8], at: usize, r: Record)
         return;
     }
     let v = r.v;
-    bytes[at] = (v % 256) as u8;
-    bytes[at + 1] = (v / 256 % 256) as u8;
-    bytes[at + 2] = r.code;
-    bytes[at + 3] = r.mode;
-    bytes[at + 4] = r.lever;
-    bytes[at + 5] = r.flags;
-    bytes[at + 6] = r.band;
-    bytes[at + 7] = r.sense;
+    layout::put_eight(
+        bytes,
+        at,
+        (v % 256) as u8,
+        (v / 256 % 256) as u8,
+        r.code,
+        r.mode,
+        r.lever,
+        r.flags,
+        r.band,
+        r.sense,
+    );
 }

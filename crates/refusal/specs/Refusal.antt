@@ -37,7 +37,7 @@ backTooFar = 8
 abbrev pub badRecord : ℕ
 badRecord = 9
 
--- header, counts, offsets or lengths of a file
+-- file shorter than its header, a count out of range, or an offset, total or real length other than the counts give
 abbrev pub badFile : ℕ
 badFile = 10
 
@@ -49,9 +49,10 @@ badTicks = 11
 abbrev pub shortBuffer : ℕ
 shortBuffer = 12
 
+-- no such card
 abbrev pub noSuchCard : ℕ
 noSuchCard = 13
 
--- the first of two numbers that is one
+-- of two numbers the first that is not 0; 0 if both are
 unfoldable pub firstRefusal : ℕ → ℕ → ℕ
 firstRefusal first second = cond (eqb first 0) second first

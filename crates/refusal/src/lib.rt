@@ -28,7 +28,7 @@ pub const SHORT_BUFFER: u8 = 12;
 
 pub const NO_SUCH_CARD: u8 = 13;
 
-// The first of two numbers that is one.
+// Of two numbers the first that is not 0; 0 if both are.
 pub fn first_refusal(first: u8, second: u8) -> u8
     ensures { λ r. ⌜ r ≡ firstRefusal first second ⌝ }
 {

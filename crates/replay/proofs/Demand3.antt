@@ -10,6 +10,7 @@ use borrow.Author.Tests.{eqb-true, eqb-false, eq-eqb, ne-eqb}
 use lib.Dec.{eqb}
 use lib.ListN.{length, getD, take, length-append, length-map, List·getD-append}
 use lib.Seq.{getD-take, getD-append-add, length-take-le}
+use Rattle.refusal.specs.Refusal.{backTooFar}
 use Rattle.card.specs.declared.Card.{Card}
 use Rattle.card.specs.Card.{cardInRange}
 use Rattle.card.proofs.Ranges.{card-ranges}
@@ -29,11 +30,11 @@ use Rattle.desk.specs.declared.Desk.{Desk}
 use Rattle.desk.specs.declared.Outcome.{Outcome}
 use Rattle.journal.specs.Journal.{capacity, records, allInRange}
 use Rattle.desk.specs.Desk.{deskInRange, freshDesk}
-use Rattle.desk.specs.Calls.{refused, accepted, openOutcome, tickNumber, tickOutcome, tickJournal, backRefusal, backOutcome, restartOutcome}
+use Rattle.desk.specs.Calls.{refused, accepted, openOutcome, tickRefusal, tickOutcome, tickJournal, backRefusal, backOutcome, restartOutcome}
 use Rattle.numbers.proofs.All.{each-all}
 use Rattle.journal.proofs.Room.{room}
 use Rattle.desk.proofs.Calls as Calls
-use Rattle.replay.specs.Demand3.{Call, Tick, Back, Restart, Drive, outcome, journalAfter, survivors, call, calls, outcomes, opened, Same, Demand3, LastAnswer}
+use Rattle.replay.specs.Demand3.{Call, Tick, Back, Restart, Drive, outcome, journalAfter, survivors, call, calls, outcomes, opened, Same, Demand3, LastAnswer, NoneLeft}
 
 -- ---- the survivors and their records
 abbrev survivor : List Sample → ℕ → Record
@@ -133,32 +134,27 @@ module _ (card : Card) (L : ℕ) (ok : cardInRange card ≡ true) (s : Drive) (v
       }))
 
   -- ---- what is accepted: 5, 6 and 9 never come up
-  tick-open : (x : Sample) → sampleRefusal x ≡ 0 → length (s .kept) < capacity L → tickNumber (s .desk) x (s .journal) ≡ 0
-  tick-open x f h =
+  desk-fit : Calls.DeskTaken (s .desk) (length (s .journal))
+  desk-fit =
       let n = n-is in
       let l = v .long in
       let m = small in
-      Calls.taken-tick _ _ _ (record { desk-good = desk-good; long = omega arith; below = rw (v .long) (omega arith); fine = f })
+      record { desk-good = desk-good; long = omega arith }
+
+  tick-open : (x : Sample) → sampleRefusal x ≡ 0 → length (s .kept) < capacity L → tickRefusal (s .desk) x (s .journal) ≡ 0
+  tick-open x f h =
+      let n = n-is in
+      Calls.taken-tick _ _ _ (record { desk = desk-fit; below = rw (v .long) (omega arith); fine = f })
 
   back-open : (k : ℕ) → k ≤ length (s .kept) → backRefusal (s .desk) k (s .journal) ≡ 0
   back-open k h =
       let n = n-is in
-      let l = v .long in
-      let m = small in
-      Calls.taken-back _ _ _
-      (record {
-        desk-good = desk-good;
-        long = omega arith;
-        few = omega arith;
-        good = each-all _ _ (λ i l. good i (omega arith));
-      })
+      Calls.taken-back _ _ _ (record { desk = desk-fit; few = omega arith; good = each-all _ _ (λ i l. good i (omega arith)) })
 
-  back-closed : (k : ℕ) → length (s .kept) < k → backOutcome (s .desk) k (s .journal) ≡ refused (s .desk) 8
+  back-closed : (k : ℕ) → length (s .kept) < k → backOutcome (s .desk) k (s .journal) ≡ refused (s .desk) backTooFar
   back-closed k h =
       let n = n-is in
-      let l = v .long in
-      let m = small in
-      let e : backRefusal (s .desk) k (s .journal) ≡ 8 = Calls.back-many _ _ _ desk-good (omega arith) (omega arith) in
+      let e : backRefusal (s .desk) k (s .journal) ≡ backTooFar = Calls.back-many _ _ _ desk-fit (omega arith) in
       Calls.back-no _ _ _ (λ z. omega (arith, e, z)) ∙ ap (refused (s .desk)) e
 
   restart-is : outcome s Restart ≡ refused (freshDesk (s .desk .card)) 0
@@ -170,7 +166,7 @@ module _ (card : Card) (L : ℕ) (ok : cardInRange card ≡ true) (s : Drive) (v
   tick-adds x f h = rw (Calls.tick-yes (s .desk) x (s .journal) (tick-open x f h) .0)
 
   -- ---- an accepted call keeps it
-  ticked : (x : Sample) → tickNumber (s .desk) x (s .journal) ≡ 0 → Kept card L (call s (Tick x))
+  ticked : (x : Sample) → tickRefusal (s .desk) x (s .journal) ≡ 0 → Kept card L (call s (Tick x))
   unfolding call outcome journalAfter survivors
   ticked x e =
       let yes = Calls.tick-yes (s .desk) x (s .journal) e in
@@ -227,7 +223,7 @@ module _ (card : Card) (L : ℕ) (ok : cardInRange card ≡ true) (s : Drive) (v
       })
 
   -- ---- and a refused one leaves the drive as it was
-  tick-refused : (x : Sample) → (tickNumber (s .desk) x (s .journal) ≡ 0 → ⊥) → call s (Tick x) ≡ s
+  tick-refused : (x : Sample) → (tickRefusal (s .desk) x (s .journal) ≡ 0 → ⊥) → call s (Tick x) ≡ s
   unfolding call outcome journalAfter
   tick-refused x f = let no = Calls.tick-no (s .desk) x (s .journal) f in rw (no .0, no .1, ne-eqb _ _ f)
 
@@ -236,9 +232,9 @@ module _ (card : Card) (L : ℕ) (ok : cardInRange card ≡ true) (s : Drive) (v
   back-refused k f = rw (Calls.back-no (s .desk) k (s .journal) f, ne-eqb _ _ f)
 
   called : (c : Call) → Kept card L (call s c)
-  called (Tick x) = go (ℕ-discrete (tickNumber (s .desk) x (s .journal)) 0)
+  called (Tick x) = go (ℕ-discrete (tickRefusal (s .desk) x (s .journal)) 0)
     where
-      go : Dec (tickNumber (s .desk) x (s .journal) ≡ 0) → Kept card L (call s (Tick x))
+      go : Dec (tickRefusal (s .desk) x (s .journal) ≡ 0) → Kept card L (call s (Tick x))
       go (yes e) = ticked x e
       go (no f) = rw (tick-refused x f) v
   called (Back k) = go (ℕ-discrete (backRefusal (s .desk) k (s .journal)) 0)
@@ -298,7 +294,7 @@ module _ (card : Card) (L : ℕ) (ok : cardInRange card ≡ true) (s t : Drive) 
           ∙ sym (Calls.back-yes _ _ _ (back-open card L ok t w k (omega arith)))
       go (no h) =
           let m = ap length e in
-          back-closed card L ok s v k (omega arith) ∙ ap (λ (d : Desk). refused d 8) desks-same ∙ sym (back-closed card L ok t w k (omega arith))
+          back-closed card L ok s v k (omega arith) ∙ ap (λ (d : Desk). refused d backTooFar) desks-same ∙ sym (back-closed card L ok t w k (omega arith))
   outcomes-same Restart = ap restartOutcome desks-same
 
   kept-same : (c : Call) → call t c .kept ≡ call s c .kept
@@ -398,3 +394,14 @@ last-answer card J K cs k xs x ok e few is =
     let f : Fine xs = fine-front xs x (rw is at (fine-take (length (s .kept) - k) (s .kept) (v .fine))) .0 in
     let long : length xs + 1 ≡ length (s .kept) - k = sym (sym (length-take-le (length (s .kept) - k) (s .kept) (omega arith)) ∙ ap length is ∙ length-snoc xs x) in
     answers-same card L ok s t v w k xs x few is (fed card L ok (opened card K) b xs f (let h = v .fits in omega arith))
+
+pub none-left : NoneLeft
+unfolding outcome after
+none-left card J cs ok =
+    let L = length J in
+    let s = calls (opened card J) cs in
+    let v : Kept card L s = all-called card L ok (opened card J) (begun card J ok) cs in
+    let k = length (s .kept) in
+    let gone : s .desk .n - k ≡ 0 = omega (arith, n-is card L ok s v) in
+    ap (λ (o : Outcome). o .answer) (Calls.back-yes _ _ _ (back-open card L ok s v k (omega arith)))
+    ∙ ap (λ (i : ℕ). after (s .desk .card) (records (s .journal)) i .answer) gone

@@ -9,6 +9,7 @@ use Rattle.card.specs.declared.Card.{Card}
 use Rattle.card.specs.Card.{cardInRange}
 use Rattle.record.specs.declared.Sample.{Sample}
 use Rattle.record.specs.Sample.{sampleRefusal}
+use Rattle.rules.specs.Answer.{noAnswer}
 use Rattle.desk.specs.declared.Desk.{Desk}
 use Rattle.desk.specs.declared.Outcome.{Outcome}
 use Rattle.journal.specs.Journal.{capacity}
@@ -82,9 +83,15 @@ Demand3 =
     × ((J K : List ℕ) (cs : List Call) → length K ≡ length J →
     Same (length J) (calls (opened card J) cs) (calls (opened card K) (map Tick (calls (opened card J) cs .kept))))
 
--- a step back returns the last survivor's answer: the one that the tick gave which took it
+-- a step back answers as a fresh desk, fed the survivors, does at the last of them
 abbrev pub LastAnswer : Type 0
 LastAnswer =
     (card : Card) (J K : List ℕ) (cs : List Call) (k : ℕ) (xs : List Sample) (x : Sample) → cardInRange card ≡ true → length K ≡ length J →
     k ≤ length (calls (opened card J) cs .kept) → survivors (calls (opened card J) cs .kept) (Back k) ≡ xs ++ (x ∷ []) →
     outcome (calls (opened card J) cs) (Back k) .answer ≡ outcome (calls (opened card K) (map Tick xs)) (Tick x) .answer
+
+-- and zeros where none is left
+abbrev pub NoneLeft : Type 0
+NoneLeft =
+    (card : Card) (J : List ℕ) (cs : List Call) → cardInRange card ≡ true →
+    outcome (calls (opened card J) cs) (Back (length (calls (opened card J) cs .kept))) .answer ≡ noAnswer

@@ -4,7 +4,8 @@ use Rattle.card.specs.declared.Card.{Card}
 use Rattle.record.specs.declared.Record.{Record}
 use Rattle.rules.specs.declared.Advanced.{Advanced}
 use Rattle.state.specs.State.{freshState}
-use Rattle.rules.specs.Tick.{noAnswer, advance}
+use Rattle.rules.specs.Answer.{noAnswer}
+use Rattle.rules.specs.Tick.{advance}
 
 unfoldable pub after : Card → (ℕ → Record) → ℕ → Advanced
 after card records zero = record { state = freshState; answer = noAnswer }

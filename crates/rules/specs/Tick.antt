@@ -1,19 +1,16 @@
 -- One tick: what it finds, step by step, and what it makes of it.
-use Prim.Native.Nat.{ℕ, _+_}
+use Prim.Native.Nat.{ℕ}
 use mathlib.Core.Bool.{false, _||_, cond}
-use lib.Dec.{ltb, eqb}
+use lib.Dec.{eqb}
 use Rattle.card.specs.declared.Card.{Card}
 use Rattle.card.specs.Card.{beyond}
 use Rattle.record.specs.declared.Record.{Record}
 use Rattle.record.specs.declared.Keys.{Keys}
 use Rattle.record.specs.Modes.{pre}
 use Rattle.record.specs.Flags.{keysOf, buttonsOf}
-use Rattle.signal.specs.declared.Signal.{Signal}
 use Rattle.signal.specs.declared.Aspect.{Aspect}
-use Rattle.signal.specs.Speed.{on, runs}
 use Rattle.signal.specs.Aspect.{aspectNow}
 use Rattle.vigilance.specs.declared.Cyclic.{Cyclic}
-use Rattle.vigilance.specs.declared.Once.{Once}
 use Rattle.vigilance.specs.declared.OneTime.{OneTime}
 use Rattle.vigilance.specs.Watch.{watchKind, watched}
 use Rattle.vigilance.specs.Once.{asked}
@@ -22,22 +19,15 @@ use Rattle.causes.specs.declared.Moved.{Moved}
 use Rattle.causes.specs.declared.Stood.{Stood}
 use Rattle.causes.specs.Held.{heldIn, maskOf, lowest, howMany}
 use Rattle.causes.specs.Direction.{driven}
+use Rattle.causes.specs.Remote.{remoteStops}
 use Rattle.causes.specs.Standing.{parked}
-use Rattle.causes.specs.Keeping.{remoteStops, released, kept, wrongwayLeft}
+use Rattle.causes.specs.Keeping.{released, kept, wrongwayLeft}
 use Rattle.state.specs.declared.State.{State}
 use Rattle.rules.specs.declared.Answer.{Answer}
 use Rattle.rules.specs.declared.Advanced.{Advanced}
 use Rattle.state.specs.Mode.{entered}
 use Rattle.rules.specs.Permitted.{permitted}
-
--- marks: bit 0 MAN, 1 curve, 2 cyclic prompt, 3 one-time prompt, 4 its kind, 5 ZS20
-unfoldable pub marks : Signal → Cyclic → Once → Stood → ℕ
-marks signal cyclic once stood =
-    cond (on (signal .man)) 1 0 + cond (runs (signal .curve)) 2 0 + cond (cyclic .prompts) 4 0
-    + cond (ltb 0 (once .ticks)) 8 0 + cond (ltb 0 (once .kind)) 16 0 + cond (stood .sounds) 32 0
-
-abbrev pub noAnswer : Answer
-noAnswer = record { permitted = 0; target = 0; marks = 0; causes = 0; lowest = 0; held = 0 }
+use Rattle.rules.specs.Answer.{marks}
 
 -- s: the state as step 1 leaves it
 module _ (card : Card) (s : State) (r : Record) where

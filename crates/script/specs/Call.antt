@@ -12,7 +12,7 @@ use Rattle.script.specs.declared.Reply.{Reply}
 use Rattle.script.specs.declared.Reply.the-variants.{Line, BadScript}
 use Rattle.script.specs.Sample.{sampleWidth, sampleAt}
 
--- "20 bytes card, journal length (u16 little-endian)"
+-- the card, then the journal's length as a u16
 abbrev pub headerWidth : ℕ
 headerWidth = cardWidth + 2
 

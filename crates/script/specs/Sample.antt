@@ -13,7 +13,7 @@ u32At bytes at = u16At bytes at + 65536 * u16At bytes (at + 2)
 abbrev pub sampleWidth : ℕ
 sampleWidth = 13
 
--- "speed's f32 bits u32 little-endian, pressure's f32 bits likewise, code, mode, lever, flags, sense"
+-- the bits of speed and pressure as u32, then code, mode, lever, flags, sense
 unfoldable pub sampleAt : List ℕ → ℕ → Sample
 sampleAt bytes at =
     record {

@@ -1,6 +1,5 @@
 // Prints the exercise on standard input: for each card its number, then for each run, after its last tick,
 // the ticks so far, P, T, the causes and the lowest of them. A refused file prints only its refusal.
-ghost use Prim.Native.Nat.{_≤_, _*_};
 use layout::byte_at;
 use layout::u16_at;
 use libc::STDIN_FILENO;

@@ -6,7 +6,7 @@ use Rattle.card.specs.declared.Card.{Card}
 use Rattle.record.specs.declared.Keys.{Keys}
 use Rattle.signal.specs.declared.Curve.{Curve}
 use Rattle.signal.specs.declared.Aging.{Aging}
-use Rattle.signal.specs.Speed.{runs, curveValue}
+use Rattle.signal.specs.Speed.{curveRuns, curveValue}
 use Rattle.signal.specs.Ranges.{noCurve}
 use Rattle.signal.specs.NewCode.{manAt}
 
@@ -16,7 +16,7 @@ ageNow curve begins = cond begins (curve .age) (curve .age + 1)
 
 -- when its value equals T the curve ends
 unfoldable pub curveHolds : Card → Curve → Bool → ℕ → Bool
-curveHolds card curve begins t = runs curve && not (eqb (curveValue card curve t (ageNow curve begins)) t)
+curveHolds card curve begins t = curveRuns curve && not (eqb (curveValue card curve t (ageNow curve begins)) t)
 
 module _ (card : Card) (curve : Curve) (begins : Bool) (t : ℕ) (keys : Keys) where
   -- then, with a curve running, a MAN press or adhesion loss starts MAN and ends the curve
@@ -26,7 +26,7 @@ module _ (card : Card) (curve : Curve) (begins : Bool) (t : ℕ) (keys : Keys) w
   -- where none runs its fields stay as they are
   unfoldable pub curveAged : Curve
   curveAged =
-      cond (runs curve)
+      cond (curveRuns curve)
       (cond (curveHolds card curve begins t && not manStarts) (record { start = curve .start; age = ageNow curve begins; given = curve .given }) noCurve)
       curve
 

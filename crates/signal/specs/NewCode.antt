@@ -11,7 +11,7 @@ use Rattle.signal.specs.declared.Turn.{Turn}
 use Rattle.codes.specs.Gap.{newCode}
 use Rattle.signal.specs.Ranges.{noCurve}
 use Rattle.codes.specs.Target.{target}
-use Rattle.signal.specs.Speed.{on, signalSpeed}
+use Rattle.signal.specs.Speed.{manOn, signalSpeed}
 
 abbrev pub curveFrom : ℕ → Curve
 curveFrom speed = record { start = speed; age = 0; given = 0 }
@@ -35,9 +35,9 @@ newTarget card r = target card (r .code) 0
 module _ (card : Card) (s : Signal) (r : Record) where
   -- if MAN is on it ends when the new T > v
   abbrev pub manStays : Bool
-  manStays = on (s .man) && leb (newTarget card r) (r .v)
+  manStays = manOn (s .man) && leb (newTarget card r) (r .v)
 
-  -- with MAN off or just ended it begins after a gap: the last code was 0, k is not 0, g > 50, and T is below the target of k
+  -- with MAN off or just ended it begins after a gap: the last code was 0, k is not 0, g > 50, and T is below the target of k at raise 0
   unfoldable pub gapMan : Bool
   gapMan =
       eqb (s .codes .last) none && not (eqb (s .codes .before) none) && ltb 50 (s .codes .gap)

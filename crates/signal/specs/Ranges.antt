@@ -1,4 +1,4 @@
--- What the desk holds of the signals: none, and its ranges, as facts and as the test that the code makes; ranges of what steps 2 to 6 find.
+-- What the desk holds of the signals: its zeros, and its ranges, as facts and as the test that the code makes; ranges of what steps 2 to 6 find.
 use Prim.Native.Nat.{ℕ, _≤_}
 use mathlib.Core.Bool.{Bool, _&&_}
 use lib.Dec.{leb}

@@ -6,17 +6,17 @@ use Rattle.card.specs.declared.Card.{Card}
 use Rattle.signal.specs.declared.Curve.{Curve}
 
 -- a curve runs
-abbrev pub runs : Curve → Bool
-runs curve = ltb 0 (curve .start)
+abbrev pub curveRuns : Curve → Bool
+curveRuns curve = ltb 0 (curve .start)
 
 -- MAN is on
-abbrev pub on : ℕ → Bool
-on man = ltb 0 man
+abbrev pub manOn : ℕ → Bool
+manOn man = ltb 0 man
 
--- the curve's value at an age
+-- the curve's value at age c: max(T, V0 − min(V0, floor(c·r/10)))
 unfoldable pub curveValue : Card → Curve → ℕ → ℕ → ℕ
 curveValue card curve t age = max t (curve .start - min (curve .start) (age * card .deceleration / 10))
 
 -- M under MAN, the curve's value under a curve, else T
 unfoldable pub signalSpeed : Card → Curve → ℕ → ℕ → ℕ
-signalSpeed card curve man t = cond (on man) man (cond (runs curve) (curveValue card curve t (curve .age)) t)
+signalSpeed card curve man t = cond (manOn man) man (cond (curveRuns curve) (curveValue card curve t (curve .age)) t)

@@ -21,15 +21,15 @@ module _ (s : State) (r : Record) where
   abbrev pub outsidePre : Bool
   outsidePre = not (eqb modeNow pre)
 
-  abbrev pub clearsSignal : Bool
-  clearsSignal = newMode || outsidePre
+  abbrev pub clearsPre : Bool
+  clearsPre = newMode || outsidePre
 
   unfoldable pub entered : State
   entered = record {
     mode = modeNow;
     buttons = s .buttons;
-    signal = cond clearsSignal noSignal (s .signal);
-    once = cond clearsSignal noOnce (s .once);
+    signal = cond clearsPre noSignal (s .signal);
+    once = cond clearsPre noOnce (s .once);
     watch = cond newMode noWatch (s .watch);
     wrongway = cond newMode 0 (s .wrongway);
     standing = cond newMode 0 (s .standing);

@@ -6,7 +6,7 @@ use Rattle.card.specs.declared.Card.{Card}
 use Rattle.card.specs.Card.{beyond}
 use Rattle.record.specs.declared.Keys.{Keys}
 use Rattle.signal.specs.declared.Curve.{Curve}
-use Rattle.signal.specs.Speed.{runs, curveValue}
+use Rattle.signal.specs.Speed.{curveRuns, curveValue}
 use Rattle.vigilance.specs.declared.Once.{Once}
 use Rattle.vigilance.specs.declared.OneTime.{OneTime}
 use Rattle.vigilance.specs.Ranges.{promptTicks}
@@ -35,16 +35,27 @@ unfoldable pub onceStays : Keys → Once → Bool
 onceStays keys old = prompting old && not (keys .vigilance) && not (expires old)
 
 -- curve, t: the curve and T as steps 2 to 5 leave them; begins: the curve began this tick
-module _ (card : Card) (curve : Curve) (begins : Bool) (t v : ℕ) (keys : Keys) (old : Once) where
-  -- u was 0 and a curve runs: if w = 0 and D(c + R), kind 1
-  unfoldable pub asksAhead : Bool
-  asksAhead = not (prompting old) && runs curve && eqb (curve .given) 0 && exceeds card curve t v (curve .age + lead card)
+module _ (card : Card) (curve : Curve) (t v : ℕ) where
+  -- w = 0 and D(c + R)
+  unfoldable pub dueAhead : Bool
+  dueAhead = eqb (curve .given) 0 && exceeds card curve t v (curve .age + lead card)
 
-  -- else if the curve began this tick, not D(99 + R), and v > T + tolerance, kind 0
+  -- the curve began this tick, not D(99 + R), and v > T + tolerance
+  unfoldable pub dueAtStart : Bool → Bool
+  dueAtStart begins = begins && not (exceeds card curve t v (99 + lead card)) && beyond card t v
+
+module _ (card : Card) (curve : Curve) (begins : Bool) (t v : ℕ) (keys : Keys) (old : Once) where
+  -- u was 0 and a curve runs
+  abbrev pub mayAsk : Bool
+  mayAsk = not (prompting old) && curveRuns curve
+
+  -- kind 1
+  unfoldable pub asksAhead : Bool
+  asksAhead = mayAsk && dueAhead card curve t v
+
+  -- else kind 0
   unfoldable pub asksAtStart : Bool
-  asksAtStart =
-      not (prompting old) && runs curve && not asksAhead && begins && not (exceeds card curve t v (99 + lead card))
-      && beyond card t v
+  asksAtStart = mayAsk && not asksAhead && dueAtStart card curve t v begins
 
   unfoldable pub onceTicks : ℕ
   onceTicks = cond (onceStays keys old) (old .ticks + 1) (cond (asksAhead || asksAtStart) 1 0)

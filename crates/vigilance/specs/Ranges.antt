@@ -1,4 +1,4 @@
--- What the desk holds of vigilance: none, and its ranges, as facts and as the test that the code makes.
+-- What the desk holds of vigilance: its zeros, and its ranges, as facts and as the test that the code makes.
 use Prim.Native.Nat.{ℕ, _≤_}
 use mathlib.Core.Bool.{Bool, _&&_}
 use lib.Dec.{leb}

@@ -8,7 +8,7 @@ use Rattle.record.specs.declared.Keys.{Keys}
 use Rattle.record.specs.Codes.{stop, warning, forty}
 use Rattle.record.specs.Modes.{pre, preOrVyl}
 use Rattle.signal.specs.declared.Signal.{Signal}
-use Rattle.signal.specs.Speed.{runs, on}
+use Rattle.signal.specs.Speed.{curveRuns, manOn}
 use Rattle.vigilance.specs.declared.Watch.{Watch}
 use Rattle.vigilance.specs.declared.Cyclic.{Cyclic}
 use Rattle.vigilance.specs.Ranges.{ordinary, increased, promptTicks}
@@ -22,10 +22,10 @@ module _ (mode : ℕ) (s : Signal) (r : Record) (keys : Keys) where
   unfoldable pub asksIncreased : Bool
   asksIncreased =
       eqb mode pre
-      && (on (s .man)
-      || (eqb (r .code) stop && not (runs (s .curve)) && not (eased r keys))
+      && (manOn (s .man)
+      || (eqb (r .code) stop && not (curveRuns (s .curve)) && not (eased r keys))
       || (eqb (r .code) forty && leb 1 (s .codes .raise) && not (eased r keys))
-      || (eqb (r .code) warning && not (runs (s .curve)) && ltb 900 (r .v)))
+      || (eqb (r .code) warning && not (curveRuns (s .curve)) && ltb 900 (r .v)))
 
   -- else in PRE and VYL if not eased
   unfoldable pub asksOrdinary : Bool

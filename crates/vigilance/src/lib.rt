@@ -1,14 +1,12 @@
-// Steps 7 and 8 of a tick: the vigilance that the driver owes all the time, and the one that a curve asks once.
+// Steps 7 and 8 of a tick: cyclic and one-time vigilance.
 ghost use mathlib.Core.Path.{_≡_};
-ghost use mathlib.Core.Bool.{not, _&&_};
-ghost use lib.Dec.{eqb, ltb};
-ghost use Prim.Native.Nat.{_+_, _≤_};
-ghost use Rattle.card.specs.Card.{mostCycle, CardRanges, beyond};
+ghost use Prim.Native.Nat.{_≤_};
+ghost use Rattle.card.specs.Card.{mostCycle, CardRanges};
 ghost use Rattle.reading.specs.Speed.{topSpeed};
 ghost use Rattle.signal.specs.Ranges.{CurveRanges};
 ghost use Rattle.vigilance.specs.Ranges.{increased, WatchRanges, OnceRanges, OneTimeRanges, watchInRange, onceInRange};
 ghost use Rattle.vigilance.specs.Watch.{eased, asksIncreased, watchKind, increasedCycle, cycleLength, watched};
-ghost use Rattle.vigilance.specs.Once.{lead, exceeds, asked};
+ghost use Rattle.vigilance.specs.Once.{lead, exceeds, dueAhead, dueAtStart, asked};
 use card::Card;
 use record::Keys;
 use record::Record;
@@ -180,9 +178,9 @@ fn exceeds(card: Card, curve: Curve, t: u16, v: u16, age: u16) -> bool
 }
 
 // Step 8, with a curve: whether the prompt ahead of the curve is due.
-fn asks_ahead(card: Card, curve: Curve, t: u16, v: u16) -> bool
+fn due_ahead(card: Card, curve: Curve, t: u16, v: u16) -> bool
     requires { ⌜ CardRanges card × CurveRanges curve × (t ≤ topSpeed) ⌝ }
-    ensures { λ x. ⌜ x ≡ (eqb (curve .given) 0 && exceeds card curve t v (curve .age + lead card)) ⌝ }
+    ensures { λ x. ⌜ x ≡ dueAhead card curve t v ⌝ }
 {
     if curve.given == 0 {
         let lead = lead(card);
@@ -192,9 +190,9 @@ fn asks_ahead(card: Card, curve: Curve, t: u16, v: u16) -> bool
 }
 
 // Step 8, with a curve: whether the prompt at the curve's start is due.
-fn asks_at_start(card: Card, curve: Curve, begins: bool, t: u16, v: u16) -> bool
+fn due_at_start(card: Card, curve: Curve, begins: bool, t: u16, v: u16) -> bool
     requires { ⌜ CardRanges card × CurveRanges curve × (t ≤ topSpeed) ⌝ }
-    ensures { λ x. ⌜ x ≡ (begins && not (exceeds card curve t v (99 + lead card)) && beyond card t v) ⌝ }
+    ensures { λ x. ⌜ x ≡ dueAtStart card curve t v begins ⌝ }
 {
     if begins {
         let lead = lead(card);
@@ -234,14 +232,14 @@ pub fn asked(card: Card, curve: Curve, begins: bool, t: u16, v: u16, k: Keys, o:
         };
     }
     if 0 < curve.start {
-        if asks_ahead(card, curve, t, v) {
+        if due_ahead(card, curve, t, v) {
             return OneTime {
                 once: Once { ticks: 1, kind: 1 },
                 given: 1,
                 lapses: false,
             };
         }
-        if asks_at_start(card, curve, begins, t, v) {
+        if due_at_start(card, curve, begins, t, v) {
             return OneTime {
                 once: Once { ticks: 1, kind: 0 },
                 given: curve.given,

@@ -18,7 +18,8 @@ use Rattle.state.proofs.Ranges.{fresh-ranges}
 use Rattle.rules.proofs.After.{after-next}
 use Rattle.file.specs.File.{runCount}
 use Rattle.file.specs.Runs.{ticksTo}
-use Rattle.exercise.specs.Answers.{answerWidth, answerBytes, answers}
+use Rattle.rules.specs.Answer.{answerWidth, answerBytes}
+use Rattle.exercise.specs.Answers.{answers}
 use Rattle.file.specs.Read.{drive}
 use Rattle.file.proofs.Runs.{RunDriven, run-driven}
 use Rattle.exercise.proofs.Buffer.{one-more}

@@ -10,16 +10,16 @@ use Rattle.exercise.proofs.Outcome.{run-number, run-taken, buffer-yes, 
 use Rattle.exercise.proofs.run.Statement.{statement}
 use Rattle.exercise.proofs.run.Tie as tie
 
-run-outcome-requires : tie.Need-run-outcome-requires
-run-outcome-requires c κs = search needs
+exercise-outcome-requires : tie.Need-exercise-outcome-requires
+exercise-outcome-requires c κs = search needs
 
 returns : tie.Need-returns
 returns c =
-    let e = ap (λ (x : Ran). x .refusal) (c .before .before .run-outcome .ensures) ∙ run-number _ _ _ in
-    (c .before .before .run-outcome .ensures, sym (buffer-no _ _ _ (λ z. c .if1 .taken (e ∙ z))))
+    let e = ap (λ (x : Ran). x .refusal) (c .before .before .exercise-outcome .ensures) ∙ run-number _ _ _ in
+    (c .before .before .exercise-outcome .ensures, sym (buffer-no _ _ _ (λ z. c .if1 .taken (e ∙ z))))
 
 sub-card-at : tie.Need-sub-card-at
-sub-card-at c = run-taken _ _ _ (sym (ap (λ (x : Ran). x .refusal) (c .before .before .run-outcome .ensures) ∙ run-number _ _ _) ∙ c .if1 .left) .low
+sub-card-at c = run-taken _ _ _ (sym (ap (λ (x : Ran). x .refusal) (c .before .before .exercise-outcome .ensures) ∙ run-number _ _ _) ∙ c .if1 .left) .low
 
 cast-card-at : tie.Need-cast-card-at
 cast-card-at c = search needs
@@ -36,7 +36,7 @@ card-at-requires c κs = search needs
 answer-all-requires : tie.Need-answer-all-requires
 unfolding cardIn
 answer-all-requires c κs =
-    let ran = c .before .before .before .before .run-outcome .ensures in
+    let ran = c .before .before .before .before .exercise-outcome .ensures in
     let e = sym (ap (λ (x : Ran). x .refusal) ran ∙ run-number _ _ _) ∙ c .before .before .if1 .left in
     let t = run-taken _ _ _ e in
     (rw (c .before .card-at .ensures) (t .card-good), t .runs-good, t .fits)
@@ -47,7 +47,7 @@ same-length c = search needs
 returns-2 : tie.Need-returns-2
 unfolding cardIn
 returns-2 c =
-    let ran = c .before .before .before .before .before .before .before .run-outcome .ensures in
+    let ran = c .before .before .before .before .before .before .before .exercise-outcome .ensures in
     let a = c .before .before .before .before .before .before .before .before .before .before .args in
     let e = sym (ap (λ (x : Ran). x .refusal) ran ∙ run-number _ _ _) ∙ c .before .before .before .before .before .if1 .left in (
       ran,
@@ -60,7 +60,7 @@ pub run-spec : {M : Type 1} → statement M
 run-spec =
     tie.close
     (tie.spec
-    run-outcome-requires
+    exercise-outcome-requires
     returns
     sub-card-at
     cast-card-at

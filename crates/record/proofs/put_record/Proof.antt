@@ -1,6 +1,4 @@
 use mathlib.Core.Path.{sym, _∙_}
-use lib.ListN.{length-set}
-use Rattle.layout.proofs.Written.{eight-stores}
 use Rattle.record.proofs.Bytes.{put-fits, put-nothing}
 use native.Mathlib.Omega.{arith}
 use borrow.Author.Needs.{needs}
@@ -16,62 +14,20 @@ sub-if2 c = search needs
 returns-2 : tie.Need-returns-2
 returns-2 c = sym (put-nothing _ _ _ (omega arith))
 
-cast-bytes : tie.Need-cast-bytes
-cast-bytes c = search needs
+cast-put-eight : tie.Need-cast-put-eight
+cast-put-eight c = search needs
 
-slice-write-bytes : tie.Need-slice-write-bytes
-slice-write-bytes c = search needs
+cast-put-eight-2 : tie.Need-cast-put-eight-2
+cast-put-eight-2 c = search needs
 
-cast-bytes-2 : tie.Need-cast-bytes-2
-cast-bytes-2 c = search needs
-
-add-bytes : tie.Need-add-bytes
-add-bytes c = search needs
-
-slice-write-bytes-2 : tie.Need-slice-write-bytes-2
-slice-write-bytes-2 c = simp length-set (omega arith)
-
-add-bytes-2 : tie.Need-add-bytes-2
-add-bytes-2 c = search needs
-
-slice-write-bytes-3 : tie.Need-slice-write-bytes-3
-slice-write-bytes-3 c = simp length-set (omega arith)
-
-add-bytes-3 : tie.Need-add-bytes-3
-add-bytes-3 c = search needs
-
-slice-write-bytes-4 : tie.Need-slice-write-bytes-4
-slice-write-bytes-4 c = simp length-set (omega arith)
-
-add-bytes-4 : tie.Need-add-bytes-4
-add-bytes-4 c = search needs
-
-slice-write-bytes-5 : tie.Need-slice-write-bytes-5
-slice-write-bytes-5 c = simp length-set (omega arith)
-
-add-bytes-5 : tie.Need-add-bytes-5
-add-bytes-5 c = search needs
-
-slice-write-bytes-6 : tie.Need-slice-write-bytes-6
-slice-write-bytes-6 c = simp length-set (omega arith)
-
-add-bytes-6 : tie.Need-add-bytes-6
-add-bytes-6 c = search needs
-
-slice-write-bytes-7 : tie.Need-slice-write-bytes-7
-slice-write-bytes-7 c = simp length-set (omega arith)
-
-add-bytes-7 : tie.Need-add-bytes-7
-add-bytes-7 c = search needs
-
-slice-write-bytes-8 : tie.Need-slice-write-bytes-8
-slice-write-bytes-8 c = simp length-set (omega arith)
+put-eight-requires : tie.Need-put-eight-requires
+put-eight-requires c κs = omega arith
 
 same-length : tie.Need-same-length
-same-length c = simp length-set
+same-length c = search needs
 
 returns-3 : tie.Need-returns-3
-returns-3 c = eight-stores _ _ _ _ _ _ _ _ _ _ (omega arith) ∙ sym (put-fits _ _ _ (omega arith))
+returns-3 c = c .before .before .put-eight .ensures ∙ sym (put-fits _ _ _ (omega arith))
 
 pub put-record-spec : {M : Type 1} → statement M
 put-record-spec =
@@ -80,22 +36,8 @@ put-record-spec =
     returns
     sub-if2
     returns-2
-    cast-bytes
-    slice-write-bytes
-    cast-bytes-2
-    add-bytes
-    slice-write-bytes-2
-    add-bytes-2
-    slice-write-bytes-3
-    add-bytes-3
-    slice-write-bytes-4
-    add-bytes-4
-    slice-write-bytes-5
-    add-bytes-5
-    slice-write-bytes-6
-    add-bytes-6
-    slice-write-bytes-7
-    add-bytes-7
-    slice-write-bytes-8
+    cast-put-eight
+    cast-put-eight-2
+    put-eight-requires
     same-length
     returns-3)

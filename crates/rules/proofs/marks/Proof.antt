@@ -1,4 +1,4 @@
-use Rattle.rules.specs.Tick.{marks}
+use Rattle.rules.specs.Answer.{marks}
 use borrow.Author.Needs.{needs}
 use Rattle.rules.proofs.marks.Statement.{statement}
 use Rattle.rules.proofs.marks.Tie as tie

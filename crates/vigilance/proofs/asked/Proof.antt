@@ -22,23 +22,23 @@ returns-3 : tie.Need-returns-3
 unfolding onceLapses onceStays asksAhead asksAtStart onceTicks onceKind givenNext
 returns-3 c = (simp (lt-leb _ _ (c .before .if3 .left), c .before .before .before .if2 .left, lt-ltb _ _ (c .before .before .before .before .if1 .taken)), search needs)
 
-asks-ahead-requires : tie.Need-asks-ahead-requires
-asks-ahead-requires c κs = search needs
+due-ahead-requires : tie.Need-due-ahead-requires
+due-ahead-requires c κs = search needs
 
 returns-4 : tie.Need-returns-4
 unfolding onceLapses onceStays asksAhead asksAtStart onceTicks onceKind givenNext
-returns-4 c = (simp (c .if5 .taken, ← c .before .asks-ahead .ensures, lt-ltb _ _ (c .before .before .if4 .taken), le-ltb _ _ (c .before .before .before .before .if1 .left)), search needs)
+returns-4 c = (simp (c .if5 .taken, ← c .before .due-ahead .ensures, lt-ltb _ _ (c .before .before .if4 .taken), le-ltb _ _ (c .before .before .before .before .if1 .left)), search needs)
 
-asks-at-start-requires : tie.Need-asks-at-start-requires
-asks-at-start-requires c κs = search needs
+due-at-start-requires : tie.Need-due-at-start-requires
+due-at-start-requires c κs = search needs
 
 returns-5 : tie.Need-returns-5
 unfolding onceLapses onceStays asksAhead asksAtStart onceTicks onceKind givenNext
-returns-5 c = (simp (c .if6 .taken, ← c .before .asks-at-start .ensures, c .before .before .if5 .left, ← c .before .before .before .asks-ahead .ensures, lt-ltb _ _ (c .before .before .before .before .if4 .taken), le-ltb _ _ (c .before .before .before .before .before .before .if1 .left)), search needs)
+returns-5 c = (simp (c .if6 .taken, ← c .before .due-at-start .ensures, c .before .before .if5 .left, ← c .before .before .before .due-ahead .ensures, lt-ltb _ _ (c .before .before .before .before .if4 .taken), le-ltb _ _ (c .before .before .before .before .before .before .if1 .left)), search needs)
 
 returns-6 : tie.Need-returns-6
 unfolding onceLapses onceStays asksAhead asksAtStart onceTicks onceKind givenNext
-returns-6 c = (simp (c .if6 .left, ← c .before .asks-at-start .ensures, c .before .before .if5 .left, ← c .before .before .before .asks-ahead .ensures, lt-ltb _ _ (c .before .before .before .before .if4 .taken), le-ltb _ _ (c .before .before .before .before .before .before .if1 .left)), search needs)
+returns-6 c = (simp (c .if6 .left, ← c .before .due-at-start .ensures, c .before .before .if5 .left, ← c .before .before .before .due-ahead .ensures, lt-ltb _ _ (c .before .before .before .before .if4 .taken), le-ltb _ _ (c .before .before .before .before .before .before .if1 .left)), search needs)
 
 returns-7 : tie.Need-returns-7
 unfolding onceLapses onceStays asksAhead asksAtStart onceTicks onceKind givenNext
@@ -53,9 +53,9 @@ asked-spec =
     returns-2
     add-t11
     returns-3
-    asks-ahead-requires
+    due-ahead-requires
     returns-4
-    asks-at-start-requires
+    due-at-start-requires
     returns-5
     returns-6
     returns-7)

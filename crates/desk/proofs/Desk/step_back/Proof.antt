@@ -20,7 +20,7 @@ returns c = simp (← c .refused .ensures, ne-eqb _ _ (c .before .if1 .taken), �
 cast-m : tie.Need-cast-m
 cast-m c =
     let t = back-taken _ _ _ (sym (c .before .before .back-refusal .ensures) ∙ c .before .if1 .left) in
-    let d = desk-ranges _ (t .desk-good) in
+    let d = desk-ranges _ (t .desk .desk-good) in
     let few = t .few in
     omega arith
 
@@ -33,8 +33,8 @@ cast-rebuilt c = search needs
 rebuilt-requires : tie.Need-rebuilt-requires
 rebuilt-requires c κs =
     let t = back-taken _ _ _ (sym (c .before .before .before .back-refusal .ensures) ∙ c .before .before .if1 .left) in
-    let long = t .long in
-    (desk-ranges _ (t .desk-good) .card, (omega arith, t .good))
+    let long = t .desk .long in
+    (desk-ranges _ (t .desk .desk-good) .card, (omega arith, t .good))
 
 accepted-requires : tie.Need-accepted-requires
 accepted-requires c κs = search needs

@@ -11,7 +11,7 @@ use Rattle.record.proofs.Ranges.{record-ranges}
 use Rattle.record.proofs.Refusal.{sample-in-range}
 use Rattle.rules.specs.declared.Advanced.{Advanced}
 use Rattle.rules.specs.Tick.{advance}
-use Rattle.desk.specs.Calls.{refused, accepted, tickRefusal, tickNumber}
+use Rattle.desk.specs.Calls.{refused, accepted, tickRefusalOf, tickRefusal}
 use Rattle.journal.proofs.Room.{room}
 use Rattle.desk.proofs.Calls.{tick-taken, desk-ranges, tick-yes, tick-no}
 use Rattle.desk.proofs.Desk.tick.Statement.{statement}
@@ -20,14 +20,14 @@ use Rattle.desk.proofs.Desk.tick.Tie as tie
 take-sample-requires : tie.Need-take-sample-requires
 take-sample-requires c κs = search needs
 
-tick-refusal-requires : tie.Need-tick-refusal-requires
-tick-refusal-requires c κs = search needs
+tick-refusal-of-requires : tie.Need-tick-refusal-of-requires
+tick-refusal-of-requires c κs = search needs
 
 -- the number that the code found is the definition's
-number : (c : tie.After-tick-refusal) → c .tick-refusal .result ≡ tickNumber (c .before .before .before .args .self) (c .before .before .before .args .sample) (now (c .before .before .before .args .journal))
+number : (c : tie.After-tick-refusal-of) → c .tick-refusal-of .result ≡ tickRefusal (c .before .before .before .args .self) (c .before .before .before .args .sample) (now (c .before .before .before .args .journal))
 number c =
     let a = c .before .before .before .args in
-    c .tick-refusal .ensures ∙ ap (λ (q : ℕ). tickRefusal (a .self) q (length (now (a .journal)))) (c .before .take-sample .ensures .0)
+    c .tick-refusal-of .ensures ∙ ap (λ (q : ℕ). tickRefusalOf (a .self) q (length (now (a .journal)))) (c .before .take-sample .ensures .0)
 
 refused-requires : tie.Need-refused-requires
 refused-requires c κs = search needs
@@ -57,7 +57,7 @@ add-accepted c =
 advance-requires : tie.Need-advance-requires
 advance-requires c κs =
     let t = tick-taken _ _ _ (sym (number (c .before .before .before .before .before .before .before .before .before .before)) ∙ c .before .before .before .before .before .before .before .before .before .if1 .left) in
-    let d = desk-ranges _ (t .desk-good) in
+    let d = desk-ranges _ (t .desk .desk-good) in
     let e = c .before .before .before .before .before .before .before .before .before .before .before .take-sample .ensures .1 in
     (d .card, d .state, record-ranges _ (ap recordInRange e ∙ sample-in-range _ (t .fine)))
 
@@ -83,7 +83,7 @@ tick-spec =
     tie.close
     (tie.spec
     take-sample-requires
-    tick-refusal-requires
+    tick-refusal-of-requires
     refused-requires
     returns
     cast-n

@@ -1,7 +1,8 @@
+use Rattle.vigilance.specs.Once.{dueAhead}
 use borrow.Author.Tests.{eq-eqb, ne-eqb}
 use borrow.Author.Needs.{needs}
-use Rattle.vigilance.proofs.asks_ahead.Statement.{statement}
-use Rattle.vigilance.proofs.asks_ahead.Tie as tie
+use Rattle.vigilance.proofs.due_ahead.Statement.{statement}
+use Rattle.vigilance.proofs.due_ahead.Tie as tie
 
 lead-requires : tie.Need-lead-requires
 lead-requires c κs = search needs
@@ -13,10 +14,12 @@ exceeds-requires : tie.Need-exceeds-requires
 exceeds-requires c κs = search needs
 
 returns : tie.Need-returns
+unfolding dueAhead
 returns c = simp (← c .exceeds .ensures, ← c .before .before .lead .ensures .0, eq-eqb _ _ (c .before .before .before .if1 .taken))
 
 returns-2 : tie.Need-returns-2
+unfolding dueAhead
 returns-2 c = simp (ne-eqb _ _ (c .if1 .left))
 
-pub asks-ahead-spec : {M : Type 1} → statement M
-asks-ahead-spec = tie.close (tie.spec lead-requires add-exceeds exceeds-requires returns returns-2)
+pub due-ahead-spec : {M : Type 1} → statement M
+due-ahead-spec = tie.close (tie.spec lead-requires add-exceeds exceeds-requires returns returns-2)

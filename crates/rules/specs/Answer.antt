@@ -1,0 +1,58 @@
+-- The answer: its marks, its bytes, zeros, and what it says of the valve.
+use Prim.Native.Nat.{ℕ, _+_}
+use mathlib.Core.Bool.{Bool, not, cond}
+use mathlib.Core.List.{List, [], _∷_, _++_}
+use lib.Dec.{ltb, eqb}
+use Rattle.layout.specs.Layout.{u16Bytes}
+use Rattle.signal.specs.declared.Signal.{Signal}
+use Rattle.signal.specs.Speed.{manOn, curveRuns}
+use Rattle.vigilance.specs.declared.Cyclic.{Cyclic}
+use Rattle.vigilance.specs.declared.Once.{Once}
+use Rattle.vigilance.specs.Once.{prompting}
+use Rattle.causes.specs.declared.Stood.{Stood}
+use Rattle.rules.specs.declared.Answer.{Answer}
+
+-- the weights of the marks, from bit 0
+abbrev pub manMark : ℕ
+manMark = 1
+
+abbrev pub curveMark : ℕ
+curveMark = 2
+
+-- cyclic prompt
+abbrev pub cyclicMark : ℕ
+cyclicMark = 4
+
+-- one-time prompt, and its kind
+abbrev pub onceMark : ℕ
+onceMark = 8
+
+abbrev pub kindMark : ℕ
+kindMark = 16
+
+-- ZS20
+abbrev pub soundMark : ℕ
+soundMark = 32
+
+unfoldable pub marks : Signal → Cyclic → Once → Stood → ℕ
+marks signal cyclic once stood =
+    cond (manOn (signal .man)) manMark 0
+    + cond (curveRuns (signal .curve)) curveMark 0
+    + cond (cyclic .prompts) cyclicMark 0
+    + cond (prompting once) onceMark 0
+    + cond (ltb 0 (once .kind)) kindMark 0
+    + cond (stood .sounds) soundMark 0
+
+-- how many bytes an answer takes
+abbrev pub answerWidth : ℕ
+answerWidth = 8
+
+abbrev pub answerBytes : Answer → List ℕ
+answerBytes a = u16Bytes (a .permitted) ++ u16Bytes (a .target) ++ (a .marks ∷ a .causes ∷ a .lowest ∷ a .held ∷ [])
+
+abbrev pub noAnswer : Answer
+noAnswer = record { permitted = 0; target = 0; marks = 0; causes = 0; lowest = 0; held = 0 }
+
+-- the valve is open exactly when a cause is held
+abbrev pub valveOpen : Answer → Bool
+valveOpen a = not (eqb (a .causes) 0)

@@ -1,0 +1,30 @@
+#!/usr/bin/env bash
+# Whether the documents name what is there: definitions `crate/File.name`, laws `crate/proofs/File.name`, functions `crate::name`
+# and edits `crate/name` of RULES.md and CONTRACTS.md exist, and CONTRACTS.md lists every edit.
+cd "$(dirname "$0")/.." || exit 1
+missing=0
+miss() {
+    echo "$1"
+    missing=1
+}
+names=$(grep -oh '`[^`]*`' docs/RULES.md docs/CONTRACTS.md | tr -d '`' | sort -u)
+for name in $names; do
+    crate=${name%%/*}
+    last=${name##*.}
+    if [[ $name =~ ^[a-z]+/(proofs/)?[A-Z][A-Za-z0-9]*\.[A-Za-z0-9-]+$ ]]; then
+        file=${name#"$crate"/}
+        [[ $file == proofs/* ]] || file=specs/$file
+        grep -Eq "^ *((abbrev|unfoldable|record|data|pub) )*$last( |\$)" "crates/$crate/${file%.*}.antt" 2>/dev/null || miss "no $name"
+    elif [[ $name =~ ^([A-Za-z]+)::([a-z0-9_]+) ]]; then
+        crate=${BASH_REMATCH[1]/Desk/desk}
+        grep -q "fn ${BASH_REMATCH[2]}(" "crates/$crate"/src/*.rt 2>/dev/null || miss "no function $name"
+    elif [[ $name =~ ^[a-z]+/[a-z0-9_]+$ && -d crates/$crate ]]; then
+        [ -f "crates/$crate/must-fail/${name#*/}.edit" ] || miss "no edit $name"
+    fi
+done
+for edit in crates/*/must-fail/*.edit; do
+    name=${edit#crates/}
+    name=${name/\/must-fail/}
+    grep -qF "\`${name%.edit}\`" docs/CONTRACTS.md || miss "not in CONTRACTS.md: ${name%.edit}"
+done
+exit $missing
