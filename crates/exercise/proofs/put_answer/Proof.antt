@@ -21,7 +21,7 @@ same-length : tie.Need-same-length
 same-length c = search needs
 
 returns : tie.Need-returns
-returns c = c .put-eight .ensures
+returns c = c .before .before .put-eight .ensures
 
 pub put-answer-spec : {M : Type 1} → statement M
 put-answer-spec =
