@@ -19,8 +19,8 @@ use Rattle.signal.specs.Aspect.{aspectNow}
 use Rattle.vigilance.specs.Watch.{asksIncreased, asksOrdinary, watchKind, cycleLength, watchLapses, watchTicks, watchPrompts}
 use Rattle.vigilance.specs.Once.{lead, exceeds, onceLapses, onceStays, dueAhead, dueAtStart, asksAhead, asksAtStart, onceTicks, onceKind, givenNext}
 use Rattle.causes.specs.Held.{heldIn, maskOf, also, listed, firstOr, lowest, howMany}
-use Rattle.causes.specs.Direction.{agrees, wrongwayNow, wrongwayTriggers}
-use Rattle.causes.specs.Standing.{counted, standingNow, standingTriggers, standingSounds}
+use Rattle.motion.specs.Direction.{agrees, wrongwayNow, wrongwayTriggers}
+use Rattle.motion.specs.Standing.{counted, standingNow, standingTriggers, standingSounds}
 use Rattle.causes.specs.Keeping.{released, kept, wrongwayLeft}
 use Rattle.state.specs.Mode.{modeNow, entered}
 use Rattle.rules.specs.Permitted.{ceiling, permitted}

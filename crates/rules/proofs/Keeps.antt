@@ -15,8 +15,9 @@ use Rattle.signal.specs.Ranges.{SignalRanges, AspectRanges}
 use Rattle.signal.proofs.Keeps.{aspect-now-ranges}
 use Rattle.vigilance.specs.Ranges.{WatchRanges, OnceRanges, OneTimeRanges}
 use Rattle.vigilance.proofs.Keeps.{watch-kind-most, watched-ranges, asked-ranges}
-use Rattle.causes.specs.Direction.{farthest}
-use Rattle.causes.proofs.Keeps.{wrongway-now-most, wrongway-left-most, standing-now-most, mask-of-most}
+use Rattle.motion.specs.Direction.{farthest}
+use Rattle.motion.proofs.Keeps.{wrongway-now-most, standing-now-most}
+use Rattle.causes.proofs.Keeps.{wrongway-left-most, mask-of-most}
 use Rattle.state.specs.declared.State.{State}
 use Rattle.state.specs.State.{StateRanges}
 use Rattle.state.proofs.Keeps.{entered-ranges}
@@ -47,7 +48,7 @@ module _ (card : Card) (s : State) (r : Record) (card-good : CardRanges card) (g
 
   wrongway-next-most : wrongwayNext card s r ≤ farthest
   unfolding movedIn wrongwayNext
-  wrongway-next-most = wrongway-left-most _ _ _ _ (wrongway-now-most _ _ _ _ (good .wrongway-most))
+  wrongway-next-most = wrongway-left-most _ _ _ _ _ (wrongway-now-most _ _ _ _ (good .wrongway-most))
 
   standing-in-most : stoodIn card s r .standing ≤ longWait
   unfolding stoodIn

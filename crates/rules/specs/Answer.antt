@@ -9,7 +9,7 @@ use Rattle.signal.specs.Speed.{manOn, curveRuns}
 use Rattle.vigilance.specs.declared.Cyclic.{Cyclic}
 use Rattle.vigilance.specs.declared.Once.{Once}
 use Rattle.vigilance.specs.Once.{prompting}
-use Rattle.causes.specs.declared.Stood.{Stood}
+use Rattle.motion.specs.declared.Stood.{Stood}
 use Rattle.rules.specs.declared.Answer.{Answer}
 
 -- the weights of the marks, from bit 0

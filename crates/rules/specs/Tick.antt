@@ -15,12 +15,12 @@ use Rattle.vigilance.specs.declared.OneTime.{OneTime}
 use Rattle.vigilance.specs.Watch.{watchKind, watched}
 use Rattle.vigilance.specs.Once.{asked}
 use Rattle.causes.specs.declared.Causes.{Causes}
-use Rattle.causes.specs.declared.Moved.{Moved}
-use Rattle.causes.specs.declared.Stood.{Stood}
+use Rattle.motion.specs.declared.Moved.{Moved}
+use Rattle.motion.specs.declared.Stood.{Stood}
 use Rattle.causes.specs.Held.{heldIn, maskOf, lowest, howMany}
-use Rattle.causes.specs.Direction.{driven}
-use Rattle.causes.specs.Remote.{remoteStops}
-use Rattle.causes.specs.Standing.{parked}
+use Rattle.motion.specs.Direction.{driven}
+use Rattle.motion.specs.Remote.{remoteStops}
+use Rattle.motion.specs.Standing.{parked}
 use Rattle.causes.specs.Keeping.{released, kept, wrongwayLeft}
 use Rattle.state.specs.declared.State.{State}
 use Rattle.rules.specs.declared.Answer.{Answer}

@@ -12,8 +12,8 @@ ghost use Rattle.rules.specs.Tick.{keysIn, aspectIn, triggersIn, stateNe
 ghost use Rattle.rules.specs.Found.{found};
 use card::Card;
 use causes::Causes;
-use causes::Moved;
-use causes::Stood;
+use motion::Moved;
+use motion::Stood;
 use record::Keys;
 use record::Record;
 use signal::Aspect;
@@ -127,8 +127,8 @@ fn found(card: Card, s: State, r: Record) -> Findings
     let curve = aspect.signal.curve;
     let once = s.once;
     let asked = vigilance::asked(card, curve, aspect.begins, aspect.target, r.v, keys, once);
-    let moved = causes::driven(s.mode, r, keys, s.wrongway);
-    let stood = causes::parked(
+    let moved = motion::driven(s.mode, r, keys, s.wrongway);
+    let stood = motion::parked(
         card,
         s.mode,
         r,

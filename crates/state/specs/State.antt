@@ -8,7 +8,7 @@ use Rattle.record.specs.Flags.{allButtons}
 use Rattle.signal.specs.Ranges.{noSignal, SignalRanges, signalInRange}
 use Rattle.vigilance.specs.Ranges.{noWatch, noOnce, WatchRanges, OnceRanges, watchInRange, onceInRange}
 use Rattle.causes.specs.Held.{allHeld}
-use Rattle.causes.specs.Direction.{farthest}
+use Rattle.motion.specs.Direction.{farthest}
 use Rattle.state.specs.declared.State.{State}
 
 -- a mode, all else 0

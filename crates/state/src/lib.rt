@@ -52,7 +52,7 @@ pub fn state_in_range(s: State) -> bool
         & signal::signal_in_range(s.signal)
         & vigilance::once_in_range(s.once)
         & vigilance::watch_in_range(s.watch)
-        & (s.wrongway <= causes::FARTHEST)
+        & (s.wrongway <= motion::FARTHEST)
         & (s.standing <= card::LONG_WAIT)
         & (s.causes <= causes::ALL_HELD)
 }

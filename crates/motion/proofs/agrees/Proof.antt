@@ -1,7 +1,7 @@
-use Rattle.causes.specs.Direction.{agrees}
+use Rattle.motion.specs.Direction.{agrees}
 use mathlib.Core.Path.{refl}
-use Rattle.causes.proofs.agrees.Statement.{statement}
-use Rattle.causes.proofs.agrees.Tie as tie
+use Rattle.motion.proofs.agrees.Statement.{statement}
+use Rattle.motion.proofs.agrees.Tie as tie
 
 returns : tie.Need-returns
 unfolding agrees

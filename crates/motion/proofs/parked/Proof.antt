@@ -1,9 +1,9 @@
 use Rattle.card.proofs.Ranges.{wait-between}
-use Rattle.causes.specs.Standing.{counted, standingNow, standingTriggers, standingSounds}
+use Rattle.motion.specs.Standing.{counted, standingNow, standingTriggers, standingSounds}
 use native.Mathlib.Omega.{arith}
 use borrow.Author.Needs.{needs}
-use Rattle.causes.proofs.parked.Statement.{statement}
-use Rattle.causes.proofs.parked.Tie as tie
+use Rattle.motion.proofs.parked.Statement.{statement}
+use Rattle.motion.proofs.parked.Tie as tie
 
 sub-t13 : tie.Need-sub-t13
 sub-t13 c = omega (arith, wait-between _ (c .before .before .before .before .before .pre .0))

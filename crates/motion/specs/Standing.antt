@@ -7,7 +7,7 @@ use Rattle.card.specs.declared.Card.{Card}
 use Rattle.record.specs.declared.Record.{Record}
 use Rattle.record.specs.declared.Keys.{Keys}
 use Rattle.record.specs.Modes.{preOrVyl}
-use Rattle.causes.specs.declared.Stood.{Stood}
+use Rattle.motion.specs.declared.Stood.{Stood}
 
 -- v = 0, direct brake off and band 2
 abbrev pub unbraked : Record → Keys → Bool

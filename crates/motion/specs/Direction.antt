@@ -5,7 +5,7 @@ use lib.Dec.{ltb, eqb}
 use Rattle.record.specs.declared.Record.{Record}
 use Rattle.record.specs.declared.Keys.{Keys}
 use Rattle.record.specs.Modes.{preOrVyl}
-use Rattle.causes.specs.declared.Moved.{Moved}
+use Rattle.motion.specs.declared.Moved.{Moved}
 
 -- the wrong-way distance that triggers: a tick at v moves v/360 m, so d counts 1/360 m, and this is 10 m
 abbrev pub farthest : ℕ

@@ -1,7 +1,7 @@
-use Rattle.causes.specs.Direction.{wrongwayNow, wrongwayTriggers}
+use Rattle.motion.specs.Direction.{wrongwayNow, wrongwayTriggers}
 use borrow.Author.Needs.{needs}
-use Rattle.causes.proofs.driven.Statement.{statement}
-use Rattle.causes.proofs.driven.Tie as tie
+use Rattle.motion.proofs.driven.Statement.{statement}
+use Rattle.motion.proofs.driven.Tie as tie
 
 agrees-requires : tie.Need-agrees-requires
 agrees-requires c κs = search needs
