@@ -13,7 +13,8 @@ use Rattle.refusal.specs.Refusal.{badDesk, shortJournal, fullJournal, backTooFa
 use Rattle.refusal.proofs.First.{both-zero, first-zero}
 use Rattle.card.proofs.Ranges.{card-ranges, ranges-card}
 use Rattle.record.specs.declared.Sample.{Sample}
-use Rattle.record.specs.Record.{recordWidth, putRecord, mostTicks}
+use Rattle.record.specs.Record.{recordWidth, putRecord}
+use Rattle.record.specs.Times.{mostTicks}
 use Rattle.record.specs.Sample.{sampleRefusal, sampleRecord}
 use Rattle.record.proofs.Bytes.{put-fits}
 use Rattle.rules.specs.Tick.{advance}

@@ -6,7 +6,7 @@ use Rattle.card.specs.declared.Card.{Card}
 use Rattle.card.specs.Card.{CardRanges, cardInRange, noCard}
 use Rattle.state.specs.State.{only, freshState, StateRanges, stateInRange}
 use Rattle.desk.specs.declared.Desk.{Desk}
-use Rattle.record.specs.Record.{mostTicks}
+use Rattle.record.specs.Times.{mostTicks}
 
 pub record DeskRanges (d : Desk) : Type 0 where
   pub card : CardRanges (d .card)

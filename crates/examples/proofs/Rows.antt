@@ -16,8 +16,8 @@ use Rattle.codes.specs.Plus.{raiseByCode, raiseNext, codesNext}
 use Rattle.signal.specs.Man.{manLowered}
 use Rattle.signal.specs.Curve.{ageNow, curveHolds, manStarts, curveAged, manStarted}
 use Rattle.signal.specs.Aspect.{aspectNow}
-use Rattle.vigilance.specs.Watch.{asksIncreased, asksOrdinary, watchKind, cycleLength, watchLapses, watchTicks, watchPrompts}
-use Rattle.vigilance.specs.Once.{lead, exceeds, onceLapses, onceStays, dueAhead, dueAtStart, asksAhead, asksAtStart, onceTicks, onceKind, givenNext}
+use Rattle.cyclic.specs.Watch.{asksIncreased, asksOrdinary, watchKind, cycleLength, watchLapses, watchTicks, watchPrompts}
+use Rattle.onetime.specs.Once.{lead, exceeds, onceLapses, onceStays, dueAhead, dueAtStart, asksAhead, asksAtStart, onceTicks, onceKind, givenNext}
 use Rattle.causes.specs.Held.{heldIn, maskOf, also, listed, firstOr, lowest, howMany}
 use Rattle.motion.specs.Direction.{agrees, wrongwayNow, wrongwayTriggers}
 use Rattle.motion.specs.Standing.{counted, standingNow, standingTriggers, standingSounds}

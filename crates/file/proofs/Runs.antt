@@ -12,7 +12,8 @@ use lib.Dec.{leb, ltb, eqb}
 use borrow.Author.Tests.{eqb-false, ltb-false, le-leb, lt-leb}
 use Rattle.numbers.proofs.Tests.{neither-iff}
 use Rattle.record.specs.declared.Record.{Record}
-use Rattle.record.specs.Record.{recordInRange, mostTicks}
+use Rattle.record.specs.Record.{recordInRange}
+use Rattle.record.specs.Times.{mostTicks}
 use Rattle.refusal.specs.Refusal.{badTicks, badRecord, firstRefusal}
 use Rattle.refusal.proofs.First.{both-zero, first-zero, first-some}
 use Rattle.file.specs.File.{runCount, runTicks, runRecord}

@@ -4,7 +4,8 @@ use mathlib.Core.Bool.{not, _||_, cond}
 use mathlib.Core.List.{List}
 use lib.Dec.{leb, ltb, eqb}
 use Rattle.record.specs.declared.Record.{Record}
-use Rattle.record.specs.Record.{recordInRange, noRecord, mostTicks}
+use Rattle.record.specs.Record.{recordInRange, noRecord}
+use Rattle.record.specs.Times.{mostTicks}
 use Rattle.refusal.specs.Refusal.{badTicks, badRecord, firstRefusal}
 use Rattle.file.specs.File.{runTicks, runRecord}
 

@@ -1,7 +1,7 @@
 // The exercise file of a school: its header, its cards, its runs, and the reader.
 ghost use mathlib.Core.Path.{_≡_};
 ghost use Prim.Native.Nat.{_≤_};
-ghost use Rattle.record.specs.Record.{mostTicks};
+ghost use Rattle.record.specs.Times.{mostTicks};
 ghost use Rattle.file.specs.File.{headerGood, cardsInRange, runCount, runsFrom, runTicks, runRecord};
 ghost use Rattle.file.specs.Runs.{runFault};
 ghost use Rattle.file.specs.Read.{runsRead, headRefusal, readOutcome};

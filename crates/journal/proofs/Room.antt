@@ -2,7 +2,8 @@
 -- By arithmetic.
 use Prim.Native.Nat.{ℕ, _+_, _*_, _≤_, _<_}
 use native.Mathlib.Omega.{arith}
-use Rattle.record.specs.Record.{recordWidth, mostTicks}
+use Rattle.record.specs.Record.{recordWidth}
+use Rattle.record.specs.Times.{mostTicks}
 use Rattle.journal.specs.Journal.{capacity}
 
 pub room : (n length : ℕ) → n < capacity length → (n < mostTicks) × (recordWidth * n + recordWidth ≤ length)

@@ -4,7 +4,8 @@ use mathlib.Core.List.{List}
 use mathlib.Core.Bool.{Bool}
 use Rattle.numbers.specs.All.{allBelow}
 use Rattle.record.specs.declared.Record.{Record}
-use Rattle.record.specs.Record.{recordWidth, recordAt, recordInRange, mostTicks}
+use Rattle.record.specs.Record.{recordWidth, recordAt, recordInRange}
+use Rattle.record.specs.Times.{mostTicks}
 
 -- the lesser of 7,200 and journal length / 8, whole: the length in bytes
 unfoldable pub capacity : ℕ → ℕ

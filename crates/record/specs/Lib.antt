@@ -2,4 +2,5 @@ pub mod Codes
 pub mod Modes
 pub mod Flags
 pub mod Record
+pub mod Times
 pub mod Sample

@@ -41,10 +41,6 @@ recordInRange r =
 abbrev pub noRecord : Record
 noRecord = record { v = 0; code = 0; mode = 0; lever = 0; flags = 0; band = 0; sense = 0 }
 
--- the most ticks of a drive: twelve minutes
-abbrev pub mostTicks : ℕ
-mostTicks = 7200
-
 -- how many bytes a record takes
 abbrev pub recordWidth : ℕ
 recordWidth = 8

@@ -13,8 +13,10 @@ use Rattle.record.specs.Record.{RecordRanges}
 use Rattle.record.specs.Modes.{pos, pre, zav}
 use Rattle.signal.specs.Ranges.{SignalRanges, AspectRanges}
 use Rattle.signal.proofs.Keeps.{aspect-now-ranges}
-use Rattle.vigilance.specs.Ranges.{WatchRanges, OnceRanges, OneTimeRanges}
-use Rattle.vigilance.proofs.Keeps.{watch-kind-most, watched-ranges, asked-ranges}
+use Rattle.cyclic.specs.Ranges.{WatchRanges}
+use Rattle.onetime.specs.Ranges.{OnceRanges, OneTimeRanges}
+use Rattle.cyclic.proofs.Keeps.{watch-kind-most, watched-ranges}
+use Rattle.onetime.proofs.Keeps.{asked-ranges}
 use Rattle.motion.specs.Direction.{farthest}
 use Rattle.motion.proofs.Keeps.{wrongway-now-most, standing-now-most}
 use Rattle.causes.proofs.Keeps.{wrongway-left-most, mask-of-most}

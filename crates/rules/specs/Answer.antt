@@ -6,9 +6,9 @@ use lib.Dec.{ltb, eqb}
 use Rattle.layout.specs.Layout.{u16Bytes}
 use Rattle.signal.specs.declared.Signal.{Signal}
 use Rattle.signal.specs.Speed.{manOn, curveRuns}
-use Rattle.vigilance.specs.declared.Cyclic.{Cyclic}
-use Rattle.vigilance.specs.declared.Once.{Once}
-use Rattle.vigilance.specs.Once.{prompting}
+use Rattle.cyclic.specs.declared.Cyclic.{Cyclic}
+use Rattle.onetime.specs.declared.Once.{Once}
+use Rattle.onetime.specs.Once.{prompting}
 use Rattle.motion.specs.declared.Stood.{Stood}
 use Rattle.rules.specs.declared.Answer.{Answer}
 

@@ -10,10 +10,10 @@ use Rattle.record.specs.Modes.{pre}
 use Rattle.record.specs.Flags.{keysOf, buttonsOf}
 use Rattle.signal.specs.declared.Aspect.{Aspect}
 use Rattle.signal.specs.Aspect.{aspectNow}
-use Rattle.vigilance.specs.declared.Cyclic.{Cyclic}
-use Rattle.vigilance.specs.declared.OneTime.{OneTime}
-use Rattle.vigilance.specs.Watch.{watchKind, watched}
-use Rattle.vigilance.specs.Once.{asked}
+use Rattle.cyclic.specs.declared.Cyclic.{Cyclic}
+use Rattle.onetime.specs.declared.OneTime.{OneTime}
+use Rattle.cyclic.specs.Watch.{watchKind, watched}
+use Rattle.onetime.specs.Once.{asked}
 use Rattle.causes.specs.declared.Causes.{Causes}
 use Rattle.motion.specs.declared.Moved.{Moved}
 use Rattle.motion.specs.declared.Stood.{Stood}

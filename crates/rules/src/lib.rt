@@ -12,17 +12,17 @@ ghost use Rattle.rules.specs.Tick.{keysIn, aspectIn, triggersIn, stateNe
 ghost use Rattle.rules.specs.Found.{found};
 use card::Card;
 use causes::Causes;
+use cyclic::Cyclic;
 use motion::Moved;
 use motion::Stood;
+use onetime::Once;
+use onetime::OneTime;
 use record::Keys;
 use record::Record;
 use signal::Aspect;
 use signal::Curve;
 use signal::Signal;
 use state::State;
-use vigilance::Cyclic;
-use vigilance::Once;
-use vigilance::OneTime;
 
 // What steps 2 to 9 find.
 pub struct Findings {
@@ -121,12 +121,12 @@ fn found(card: Card, s: State, r: Record) -> Findings
     let aspect = aspect_in(card, s, r, keys);
     let permitted = permitted(card, s.mode, aspect.speed);
     let signal = aspect.signal;
-    let kind = vigilance::watch_kind(s.mode, signal, r, keys);
+    let kind = cyclic::watch_kind(s.mode, signal, r, keys);
     let watch = s.watch;
-    let cyclic = vigilance::watched(card, kind, watch, keys);
+    let cyclic = cyclic::watched(card, kind, watch, keys);
     let curve = aspect.signal.curve;
     let once = s.once;
-    let asked = vigilance::asked(card, curve, aspect.begins, aspect.target, r.v, keys, once);
+    let asked = onetime::asked(card, curve, aspect.begins, aspect.target, r.v, keys, once);
     let moved = motion::driven(s.mode, r, keys, s.wrongway);
     let stood = motion::parked(
         card,

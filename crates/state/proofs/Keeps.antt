@@ -9,7 +9,8 @@ use Rattle.record.specs.declared.Record.{Record}
 use Rattle.record.specs.Record.{RecordRanges}
 use Rattle.record.specs.Modes.{pos, zav}
 use Rattle.signal.specs.Ranges.{SignalRanges}
-use Rattle.vigilance.specs.Ranges.{WatchRanges, OnceRanges}
+use Rattle.cyclic.specs.Ranges.{WatchRanges}
+use Rattle.onetime.specs.Ranges.{OnceRanges}
 use Rattle.state.specs.declared.State.{State}
 use Rattle.state.specs.State.{StateRanges}
 use Rattle.state.specs.Mode.{modeNow, newMode, outsidePre, entered}

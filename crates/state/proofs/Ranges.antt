@@ -5,7 +5,8 @@ use mathlib.Core.Bool.{true}
 use native.Mathlib.Omega.{arith}
 use Rattle.numbers.proofs.Tests.{and-iff, leb-iff}
 use Rattle.signal.proofs.Ranges.{signal-ranges, ranges-signal}
-use Rattle.vigilance.proofs.Ranges.{watch-ranges, ranges-watch, once-ranges, ranges-once}
+use Rattle.cyclic.proofs.Ranges.{watch-ranges, ranges-watch}
+use Rattle.onetime.proofs.Ranges.{once-ranges, ranges-once}
 use Rattle.state.specs.declared.State.{State}
 use Rattle.state.specs.State.{freshState, StateRanges, stateInRange}
 

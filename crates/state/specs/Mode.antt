@@ -5,7 +5,8 @@ use lib.Dec.{eqb}
 use Rattle.record.specs.declared.Record.{Record}
 use Rattle.record.specs.Modes.{pre}
 use Rattle.signal.specs.Ranges.{noSignal}
-use Rattle.vigilance.specs.Ranges.{noWatch, noOnce}
+use Rattle.cyclic.specs.Ranges.{noWatch}
+use Rattle.onetime.specs.Ranges.{noOnce}
 use Rattle.state.specs.declared.State.{State}
 
 module _ (s : State) (r : Record) where

@@ -6,7 +6,8 @@ use Rattle.card.specs.Card.{longWait}
 use Rattle.record.specs.Modes.{pos, zav}
 use Rattle.record.specs.Flags.{allButtons}
 use Rattle.signal.specs.Ranges.{noSignal, SignalRanges, signalInRange}
-use Rattle.vigilance.specs.Ranges.{noWatch, noOnce, WatchRanges, OnceRanges, watchInRange, onceInRange}
+use Rattle.cyclic.specs.Ranges.{noWatch, WatchRanges, watchInRange}
+use Rattle.onetime.specs.Ranges.{noOnce, OnceRanges, onceInRange}
 use Rattle.causes.specs.Held.{allHeld}
 use Rattle.motion.specs.Direction.{farthest}
 use Rattle.state.specs.declared.State.{State}

@@ -5,10 +5,10 @@ ghost use Rattle.record.specs.Modes.{pos, zav};
 ghost use Rattle.record.specs.Record.{RecordRanges};
 ghost use Rattle.state.specs.State.{freshState, StateRanges, stateInRange};
 ghost use Rattle.state.specs.Mode.{modeNow, entered};
+use cyclic::Watch;
+use onetime::Once;
 use record::Record;
 use signal::Signal;
-use vigilance::Once;
-use vigilance::Watch;
 
 // All that the desk holds but its card and n.
 pub struct State {
@@ -50,8 +50,8 @@ pub fn state_in_range(s: State) -> bool
         & (s.mode <= record::ZAV)
         & (s.buttons <= ALL_BUTTONS)
         & signal::signal_in_range(s.signal)
-        & vigilance::once_in_range(s.once)
-        & vigilance::watch_in_range(s.watch)
+        & onetime::once_in_range(s.once)
+        & cyclic::watch_in_range(s.watch)
         & (s.wrongway <= motion::FARTHEST)
         & (s.standing <= card::LONG_WAIT)
         & (s.causes <= causes::ALL_HELD)

@@ -3,7 +3,7 @@ use mathlib.Core.Path.{_≡_, refl, sym, ap, ap₂, _∙_}
 use native.Mathlib.Omega.{arith}
 use borrow.Author.Needs.{needs}
 use Rattle.record.specs.declared.Record.{Record}
-use Rattle.record.specs.Record.{mostTicks}
+use Rattle.record.specs.Times.{mostTicks}
 use Rattle.file.specs.File.{runCount, runTicks, runRecord}
 use Rattle.file.specs.Runs.{ticksTo, runFault, runsRefusal}
 use Rattle.file.proofs.Runs.{fault-none, fault-is, ticks-next, runs-next, runs-first}

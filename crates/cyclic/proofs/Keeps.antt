@@ -1,0 +1,32 @@
+-- Step 7 keeps cyclic vigilance in range.
+-- Each choice is bounded arm by arm; an arm that counts on by its own test. Assumes nothing.
+use Prim.Native.Nat.{ℕ, _≤_}
+use native.Mathlib.Omega.{arith}
+use borrow.Author.Tests.{leb-false}
+use Rattle.numbers.proofs.Choice.{most-iff}
+use Rattle.numbers.proofs.Tests.{neither-iff}
+use Rattle.card.specs.declared.Card.{Card}
+use Rattle.card.specs.Card.{CardRanges, mostCycle}
+use Rattle.record.specs.declared.Record.{Record}
+use Rattle.record.specs.declared.Keys.{Keys}
+use Rattle.signal.specs.declared.Signal.{Signal}
+use Rattle.cyclic.specs.declared.Watch.{Watch}
+use Rattle.cyclic.specs.Ranges.{WatchRanges, increased, longestCount}
+use Rattle.cyclic.specs.Watch.{watchKind, cycleLength, watchTicks, watched}
+
+pub watch-kind-most : (mode : ℕ) (s : Signal) (r : Record) (k : Keys) → watchKind mode s r k ≤ increased
+unfolding watchKind
+watch-kind-most mode s r k = simp most-iff (omega arith)
+
+module _ (card : Card) (kind : ℕ) (card-good : CardRanges card) where
+  cycle-length-most : cycleLength card kind ≤ mostCycle
+  unfolding cycleLength
+  cycle-length-most = simp most-iff (omega arith)
+
+  module _ (w : Watch) (k : Keys) where
+    pub watch-ticks-most : watchTicks card kind w k ≤ longestCount
+    unfolding watchTicks
+    watch-ticks-most = simp (most-iff, neither-iff) (omega (arith, leb-false, cycle-length-most))
+
+    pub watched-ranges : kind ≤ increased → WatchRanges (watched card kind w k .watch)
+    watched-ranges p = omega (arith, watch-ticks-most)

@@ -1,0 +1,71 @@
+-- Step 8: one-time vigilance.
+use Prim.Native.Nat.{ℕ, _+_}
+use mathlib.Core.Bool.{Bool, not, _&&_, _||_, cond}
+use lib.Dec.{ltb, leb, eqb}
+use Rattle.card.specs.declared.Card.{Card}
+use Rattle.card.specs.Card.{beyond}
+use Rattle.record.specs.declared.Keys.{Keys}
+use Rattle.signal.specs.declared.Curve.{Curve}
+use Rattle.signal.specs.Speed.{curveRuns, curveValue}
+use Rattle.onetime.specs.declared.Once.{Once}
+use Rattle.onetime.specs.declared.OneTime.{OneTime}
+use Rattle.record.specs.Times.{promptTicks}
+
+-- lead R is 150 when set ≤ 1000, else 100
+unfoldable pub lead : Card → ℕ
+lead card = cond (leb (card .set) 1000) 150 100
+
+-- D(a): v exceeds the curve's value at age a by more than the tolerance
+unfoldable pub exceeds : Card → Curve → ℕ → ℕ → ℕ → Bool
+exceeds card curve t v age = beyond card (curveValue card curve t age) v
+
+-- u was above 0
+abbrev pub prompting : Once → Bool
+prompting old = ltb 0 (old .ticks)
+
+-- the grown u counts
+abbrev pub expires : Once → Bool
+expires old = leb promptTicks (old .ticks + 1)
+
+-- a vigilance press makes it 0; else it grows, and from 35 it triggers NZ1 and becomes 0; a prompt outlives its curve
+unfoldable pub onceLapses : Keys → Once → Bool
+onceLapses keys old = prompting old && not (keys .vigilance) && expires old
+
+unfoldable pub onceStays : Keys → Once → Bool
+onceStays keys old = prompting old && not (keys .vigilance) && not (expires old)
+
+-- curve, t: the curve and T as steps 2 to 5 leave them; begins: the curve began this tick
+module _ (card : Card) (curve : Curve) (t v : ℕ) where
+  -- w = 0 and D(c + R)
+  unfoldable pub dueAhead : Bool
+  dueAhead = eqb (curve .given) 0 && exceeds card curve t v (curve .age + lead card)
+
+  -- the curve began this tick, not D(99 + R), and v > T + tolerance
+  unfoldable pub dueAtStart : Bool → Bool
+  dueAtStart begins = begins && not (exceeds card curve t v (99 + lead card)) && beyond card t v
+
+module _ (card : Card) (curve : Curve) (begins : Bool) (t v : ℕ) (keys : Keys) (old : Once) where
+  -- u was 0 and a curve runs
+  abbrev pub mayAsk : Bool
+  mayAsk = not (prompting old) && curveRuns curve
+
+  -- kind 1
+  unfoldable pub asksAhead : Bool
+  asksAhead = mayAsk && dueAhead card curve t v
+
+  -- else kind 0
+  unfoldable pub asksAtStart : Bool
+  asksAtStart = mayAsk && not asksAhead && dueAtStart card curve t v begins
+
+  unfoldable pub onceTicks : ℕ
+  onceTicks = cond (onceStays keys old) (old .ticks + 1) (cond (asksAhead || asksAtStart) 1 0)
+
+  -- when u is 0 its kind is 0
+  unfoldable pub onceKind : ℕ
+  onceKind = cond (onceStays keys old) (old .kind) (cond asksAhead 1 0)
+
+  unfoldable pub givenNext : ℕ
+  givenNext = cond asksAhead 1 (curve .given)
+
+  abbrev pub asked : OneTime
+  asked = record { once = record { ticks = onceTicks; kind = onceKind }; given = givenNext; lapses = onceLapses keys old }
