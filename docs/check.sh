@@ -1,6 +1,6 @@
 #!/usr/bin/env bash
 # Whether the documents name what is there: definitions `crate/File.name`, laws `crate/proofs/File.name`, functions `crate::name`
-# and edits `crate/name` of RULES.md and CONTRACTS.md exist, and CONTRACTS.md lists every edit.
+# and edits `crate/name` of RULES.md and CONTRACTS.md exist, CONTRACTS.md lists every edit, and every link leads to a file.
 cd "$(dirname "$0")/.." || exit 1
 missing=0
 miss() {
@@ -26,5 +26,10 @@ for edit in crates/*/must-fail/*.edit; do
     name=${edit#crates/}
     name=${name/\/must-fail/}
     grep -qF "\`${name%.edit}\`" docs/CONTRACTS.md || miss "not in CONTRACTS.md: ${name%.edit}"
+done
+for page in README.md docs/*.md; do
+    for link in $(grep -o '](\([^)]*\))' "$page" | sed 's/^](//; s/)$//'); do
+        [ -e "$(dirname "$page")/$link" ] || miss "$page: no $link"
+    done
 done
 exit $missing

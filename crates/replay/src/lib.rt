@@ -1,1 +1,1 @@
-// No code: demand 3, stated in specs/Demand3.antt and proved in proofs/Demand3.antt.
+// No code: demands 2 and 3, stated in specs/ and proved in proofs/.
