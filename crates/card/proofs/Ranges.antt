@@ -1,6 +1,6 @@
 -- The test of a card says that it is in range, and the other way round; bounds of the wait.
 -- The test taken apart into its facts, each an order that `omega` hands on. Assumes nothing.
-use Prim.Native.Nat.{ℕ, _≤_}
+use Prim.Native.Nat.{_≤_}
 use mathlib.Core.Path.{_≡_}
 use mathlib.Core.Bool.{true}
 use mathlib.Core.Logic.{⊎-elim}

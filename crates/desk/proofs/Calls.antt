@@ -3,9 +3,9 @@
 use Prim.Native.Nat.{ℕ, _+_, _-_, _*_, _≤_, _<_}
 use native.Mathlib.Omega.{arith}
 use mathlib.Core.Path.{_≡_, refl, sym}
-use mathlib.Core.Bool.{Bool, true, false, not, cond, false≢true}
+use mathlib.Core.Bool.{Bool, true, false, not, cond}
 use mathlib.Core.List.{List}
-use lib.Dec.{ltb, leb, eqb}
+use lib.Dec.{ltb, leb}
 use lib.ListN.{length}
 use borrow.Author.Tests.{eq-eqb, ne-eqb, le-ltb, lt-ltb, lt-leb, ltb-false, leb-false, not-false}
 use Rattle.numbers.proofs.Tests.{and-iff, leb-iff}
@@ -14,8 +14,7 @@ use Rattle.refusal.proofs.First.{both-zero, first-zero}
 use Rattle.card.proofs.Ranges.{card-ranges, ranges-card}
 use Rattle.record.specs.declared.Sample.{Sample}
 use Rattle.record.specs.Record.{recordWidth, putRecord}
-use Rattle.record.specs.Times.{mostTicks}
-use Rattle.record.specs.Sample.{sampleRefusal, sampleRecord}
+use Rattle.record.specs.Sample.{sampleRecord}
 use Rattle.record.proofs.Bytes.{put-fits}
 use Rattle.rules.specs.Tick.{advance}
 use Rattle.rules.specs.After.{after}
@@ -24,7 +23,7 @@ use Rattle.desk.specs.declared.Desk.{Desk}
 use Rattle.journal.specs.Journal.{capacity, records, allInRange}
 use Rattle.desk.specs.Desk.{DeskRanges, deskInRange}
 use Rattle.journal.proofs.Room.{room}
-use Rattle.desk.specs.Calls.{refused, accepted, deskRefusal, tickRefusalOf, tickRefusal, tickOutcome, tickJournal, backRefusal, backOutcome, restartOutcome}
+use Rattle.desk.specs.Calls.{refused, accepted, deskRefusal, tickRefusalOf, tickRefusal, tickOutcome, tickJournal, backRefusal, backOutcome}
 
 -- ---- ranges
 pub desk-ranges : (d : Desk) → deskInRange d ≡ true → DeskRanges d

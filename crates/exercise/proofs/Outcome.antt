@@ -15,7 +15,6 @@ use Rattle.card.specs.Card.{CardRanges, cardInRange}
 use Rattle.card.proofs.Ranges.{card-ranges}
 use Rattle.refusal.specs.Refusal.{shortBuffer, noSuchCard}
 use Rattle.refusal.proofs.First.{both-zero, first-zero, first-some}
-use Rattle.file.specs.declared.Ran.{Ran}
 use Rattle.file.specs.File.{cardCount, runCount, cardIn}
 use Rattle.file.specs.Runs.{runsRefusal}
 use Rattle.file.specs.Read.{tickCount, drive, headRefusal}

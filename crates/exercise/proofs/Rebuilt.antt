@@ -1,16 +1,15 @@
 -- The k-th answer of an exercise is that of a desk of its card rebuilt to tick k: stepped back to its first k records, which are the exercise's.
 -- Both are the answer of one drive, `after`, at k.
-use Prim.Native.Nat.{ℕ, zero, suc, _+_, _-_, _*_, _≤_, _<_}
+use Prim.Native.Nat.{ℕ, zero, suc, _-_, _*_, _<_}
 use native.Mathlib.Nat.{le-of-suc-le-suc, eq-or-lt-of-le}
 use native.Mathlib.Omega.{arith}
-use mathlib.Core.Path.{_≡_, refl, sym, ap, _∙_}
+use mathlib.Core.Path.{_≡_, sym, ap, _∙_}
 use mathlib.Core.Logic.{⊎-elim}
-use mathlib.Core.List.{List, [], _++_}
+use mathlib.Core.List.{List}
 use lib.ListN.{length, take, drop, length-drop}
-use lib.Seq.{take-append-le, drop-append-le, drop-at, take-all}
+use lib.Seq.{take-append-le, drop-append-le, drop-at}
 use Rattle.card.specs.declared.Card.{Card}
 use Rattle.record.specs.declared.Record.{Record}
-use Rattle.rules.specs.declared.Answer.{Answer}
 use Rattle.rules.specs.declared.Advanced.{Advanced}
 use Rattle.rules.specs.After.{after}
 use Rattle.rules.proofs.After.{after-same}

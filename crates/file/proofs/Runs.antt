@@ -8,13 +8,13 @@ use mathlib.Core.Path.{_≡_, refl, sym, ap, ap₂, _∙_}
 use mathlib.Core.Logic.{⊎-elim}
 use mathlib.Core.Bool.{Bool, true, false, not, _||_, cond}
 use mathlib.Core.List.{List}
-use lib.Dec.{leb, ltb, eqb}
+use lib.Dec.{ltb, eqb}
 use borrow.Author.Tests.{eqb-false, ltb-false, le-leb, lt-leb}
 use Rattle.numbers.proofs.Tests.{neither-iff}
 use Rattle.record.specs.declared.Record.{Record}
 use Rattle.record.specs.Record.{recordInRange}
 use Rattle.record.specs.Times.{mostTicks}
-use Rattle.refusal.specs.Refusal.{badTicks, badRecord, firstRefusal}
+use Rattle.refusal.specs.Refusal.{badTicks, badRecord}
 use Rattle.refusal.proofs.First.{both-zero, first-zero, first-some}
 use Rattle.file.specs.File.{runCount, runTicks, runRecord}
 use Rattle.file.specs.Runs.{ticksTo, runFault, runsRefusal, tickRecord}

@@ -1,9 +1,9 @@
 -- A u16 and its two bytes: what is written of a u16 is the u16 again, and one that ends before the place is as it was.
 -- From the laws of `written`, byte by byte. Assumes nothing.
-use Prim.Native.Nat.{ℕ, _+_, _*_, _/_, _%_, _≤_, _<_}
+use Prim.Native.Nat.{ℕ, _+_, _/_, _%_, _≤_, _<_}
 use native.Mathlib.Nat.{add-zero}
 use native.Mathlib.Omega.{arith}
-use mathlib.Core.Path.{_≡_, _∙_}
+use mathlib.Core.Path.{_≡_}
 use mathlib.Core.List.{List}
 use lib.ListN.{length, getD, List·getD-eq-default}
 use Rattle.layout.specs.Layout.{u16At, u16Bytes, written}

@@ -1,5 +1,5 @@
 -- What the desk holds of one-time vigilance: its zeros, and its ranges, as facts and as the test that the code makes.
-use Prim.Native.Nat.{ℕ, _≤_}
+use Prim.Native.Nat.{_≤_}
 use mathlib.Core.Bool.{Bool, _&&_}
 use lib.Dec.{leb}
 use Rattle.record.specs.Times.{promptTicks}

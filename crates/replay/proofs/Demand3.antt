@@ -1,40 +1,38 @@
 -- Demand 3, the theorem `demand3` at the end. What every call keeps: the desk is the one that the journal's first records rebuild,
 -- and those are the survivors' records. Of a tick it uses only that it keeps the ranges; it never looks into it.
-use Prim.Native.Nat.{ℕ, zero, suc, _+_, _-_, _*_, _/_, _≤_, _<_, min}
+use Prim.Native.Nat.{ℕ, zero, suc, _+_, _-_, _*_, _≤_, _<_}
 use native.Mathlib.Omega.{arith}
 use native.Mathlib.Decide.{decLe, ℕ-discrete}
 use mathlib.Core.Path.{_≡_, refl, sym, ap, ap₂, _∙_}
-use mathlib.Core.Bool.{Bool, true, false, cond}
-use mathlib.Core.List.{List, [], _∷_, _++_, map, map-append, append-assoc, append-nil}
-use borrow.Author.Tests.{eqb-true, eqb-false, eq-eqb, ne-eqb}
-use lib.Dec.{eqb}
-use lib.ListN.{length, getD, take, length-append, length-map, List·getD-append}
-use lib.Seq.{getD-take, getD-append-add, length-take-le}
+use mathlib.Core.Bool.{true}
+use mathlib.Core.List.{List, [], _∷_, _++_, map, append-assoc, append-nil}
+use borrow.Author.Tests.{ne-eqb}
+use lib.ListN.{length, getD, take, length-append}
+use lib.Seq.{length-take-le}
 use Rattle.refusal.specs.Refusal.{backTooFar}
 use Rattle.card.specs.declared.Card.{Card}
 use Rattle.card.specs.Card.{cardInRange}
 use Rattle.card.proofs.Ranges.{card-ranges}
 use Rattle.record.specs.declared.Record.{Record}
 use Rattle.record.specs.declared.Sample.{Sample}
-use Rattle.record.specs.Record.{recordWidth, recordInRange, noRecord, recordAt, putRecord}
+use Rattle.record.specs.Record.{recordWidth, recordInRange, noRecord, putRecord}
 use Rattle.record.specs.Sample.{sampleRefusal, sampleRecord}
 use Rattle.record.proofs.Ranges.{record-ranges}
 use Rattle.record.proofs.Bytes.{put-length, put-before, put-back}
 use Rattle.record.proofs.Refusal.{sample-in-range, sample-v}
-use Rattle.state.specs.declared.State.{State}
 use Rattle.rules.specs.declared.Advanced.{Advanced}
 use Rattle.rules.specs.Tick.{advance}
 use Rattle.rules.specs.After.{after}
 use Rattle.rules.proofs.After.{after-next, after-same, after-ranges}
 use Rattle.desk.specs.declared.Desk.{Desk}
 use Rattle.desk.specs.declared.Outcome.{Outcome}
-use Rattle.journal.specs.Journal.{capacity, records, allInRange}
+use Rattle.journal.specs.Journal.{capacity, records}
 use Rattle.desk.specs.Desk.{deskInRange, freshDesk}
-use Rattle.desk.specs.Calls.{refused, accepted, openOutcome, tickRefusal, tickOutcome, tickJournal, backRefusal, backOutcome, restartOutcome}
+use Rattle.desk.specs.Calls.{refused, accepted, openOutcome, tickRefusal, tickOutcome, backRefusal, backOutcome, restartOutcome}
 use Rattle.numbers.proofs.All.{each-all}
 use Rattle.journal.proofs.Room.{room}
 use Rattle.desk.proofs.Calls as Calls
-use Rattle.replay.specs.Demand3.{Call, Tick, Back, Restart, Drive, outcome, journalAfter, survivors, call, calls, outcomes, opened, Same, Demand3, LastAnswer, NoneLeft}
+use Rattle.replay.specs.Demand3.{Call, Tick, Back, Restart, Drive, outcome, journalAfter, survivors, call, calls, outcomes, opened, Demand3, LastAnswer, NoneLeft}
 
 -- ---- the survivors and their records
 abbrev survivor : List Sample → ℕ → Record

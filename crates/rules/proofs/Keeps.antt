@@ -1,7 +1,6 @@
 -- One tick keeps the state in range.
 -- Each part by the law of its step, put together as the tick puts them together. Assumes nothing.
 use Prim.Native.Nat.{ℕ, _≤_}
-use mathlib.Core.Bool.{_||_}
 use lib.Dec.{eqb}
 use native.Mathlib.Omega.{arith}
 use Rattle.numbers.proofs.Choice.{cond-has, most-iff}
@@ -10,11 +9,11 @@ use Rattle.card.specs.declared.Card.{Card}
 use Rattle.card.specs.Card.{CardRanges, longWait}
 use Rattle.record.specs.declared.Record.{Record}
 use Rattle.record.specs.Record.{RecordRanges}
-use Rattle.record.specs.Modes.{pos, pre, zav}
-use Rattle.signal.specs.Ranges.{SignalRanges, AspectRanges}
+use Rattle.record.specs.Modes.{pre}
+use Rattle.signal.specs.Ranges.{AspectRanges}
 use Rattle.signal.proofs.Keeps.{aspect-now-ranges}
 use Rattle.cyclic.specs.Ranges.{WatchRanges}
-use Rattle.onetime.specs.Ranges.{OnceRanges, OneTimeRanges}
+use Rattle.onetime.specs.Ranges.{OneTimeRanges}
 use Rattle.cyclic.proofs.Keeps.{watch-kind-most, watched-ranges}
 use Rattle.onetime.proofs.Keeps.{asked-ranges}
 use Rattle.motion.specs.Direction.{farthest}

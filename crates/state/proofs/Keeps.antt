@@ -1,6 +1,6 @@
 -- Step 1 keeps the state in range.
 -- Each choice has what both of its arms have. Assumes nothing.
-use Prim.Native.Nat.{ℕ, _≤_}
+use Prim.Native.Nat.{_≤_}
 use mathlib.Core.Bool.{_||_}
 use lib.Dec.{eqb}
 use native.Mathlib.Omega.{arith}

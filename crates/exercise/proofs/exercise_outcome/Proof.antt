@@ -1,6 +1,4 @@
-use Prim.Native.Nat.{ℕ, _*_, _≤_, _<_}
-use mathlib.Core.Path.{_≡_, sym, ap, _∙_}
-use native.Mathlib.Omega.{arith}
+use mathlib.Core.Path.{sym, ap, _∙_}
 use borrow.Author.Needs.{needs}
 use Rattle.file.specs.declared.Ran.{Ran}
 use Rattle.file.proofs.Reader.{runs-number, runs-yes, runs-no}

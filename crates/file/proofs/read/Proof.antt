@@ -1,5 +1,4 @@
-use Prim.Native.Nat.{ℕ}
-use mathlib.Core.Path.{_≡_, sym, ap, _∙_}
+use mathlib.Core.Path.{sym, ap, _∙_}
 use borrow.Author.Needs.{needs}
 use Rattle.file.specs.declared.Ran.{Ran}
 use Rattle.file.proofs.Reader.{runs-number, runs-yes, read-by-cards, read-by-runs, read-by-none}

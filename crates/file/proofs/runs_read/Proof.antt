@@ -1,12 +1,10 @@
-use Prim.Native.Nat.{ℕ, _+_, _≤_, _-_}
-use mathlib.Core.Path.{_≡_, refl, sym, ap, ap₂, _∙_}
+use Prim.Native.Nat.{_+_, _≤_, _-_}
+use mathlib.Core.Path.{_≡_, refl, sym, ap₂, _∙_}
 use native.Mathlib.Omega.{arith}
 use borrow.Author.Needs.{needs}
-use Rattle.record.specs.declared.Record.{Record}
 use Rattle.record.specs.Times.{mostTicks}
-use Rattle.file.specs.File.{runCount, runTicks, runRecord}
-use Rattle.file.specs.Runs.{ticksTo, runFault, runsRefusal}
-use Rattle.file.proofs.Runs.{fault-none, fault-is, ticks-next, runs-next, runs-first}
+use Rattle.file.specs.Runs.{ticksTo, runsRefusal}
+use Rattle.file.proofs.Runs.{fault-none, fault-is, ticks-next, runs-next}
 use Rattle.file.proofs.Reader.{runs-stopped, runs-done}
 use Rattle.file.proofs.runs_read.Statement.{statement}
 use Rattle.file.proofs.runs_read.Tie as tie

@@ -1,12 +1,11 @@
 use Prim.Native.Nat.{ℕ, _+_, _*_}
-use mathlib.Core.Path.{_≡_, sym, ap, ap₂, _∙_}
+use mathlib.Core.Path.{_≡_, sym, ap, _∙_}
 use native.Mathlib.Omega.{arith}
 use borrow.Author.Needs.{needs}
 use denote.Ref.{now}
 use lib.ListN.{length}
 use Rattle.record.specs.declared.Record.{Record}
 use Rattle.record.specs.Record.{recordWidth, recordInRange, putRecord}
-use Rattle.record.specs.Sample.{sampleRefusal, sampleRecord}
 use Rattle.record.proofs.Ranges.{record-ranges}
 use Rattle.record.proofs.Refusal.{sample-in-range}
 use Rattle.rules.specs.declared.Advanced.{Advanced}
