@@ -20,7 +20,7 @@ use Rattle.desk.specs.declared.Outcome.{Outcome}
 use Rattle.journal.specs.Journal.{capacity, records, allInRange}
 use Rattle.desk.specs.Desk.{deskInRange, freshDesk, noDesk}
 
--- a refusal: its number, the desk handed in, and an answer of zeros
+-- a refusal: its number, the desk handed in (zeros at opening), and an answer of zeros
 abbrev pub refused : Desk → ℕ → Outcome
 refused desk number = record { desk = desk; answer = noAnswer; refusal = number }
 
@@ -36,7 +36,7 @@ accepted card n a = record { desk = record { card = card; n = n; state = a .stat
 unfoldable pub openOutcome : Card → Outcome
 openOutcome card = cond (not (cardInRange card)) (refused noDesk badCard) (begun card)
 
--- 5, 6: whether the desk, with a journal of so many bytes, is fit for a call
+-- 5, 6: whether the desk, with a journal of so many bytes, is fit for a tick or a step back
 unfoldable pub deskRefusal : Desk → ℕ → ℕ
 deskRefusal d bytes = cond (not (deskInRange d)) badDesk (cond (ltb bytes (recordWidth * d .n)) shortJournal 0)
 

@@ -16,7 +16,7 @@ unfoldable pub agrees : Record → Keys → Bool
 agrees r keys = keys .cab && eqb (r .lever) (r .sense) && not (eqb (r .lever) 0)
 
 module _ (mode : ℕ) (r : Record) (keys : Keys) (d : ℕ) where
-  -- the rule looks at motion, in PRE and VYL
+  -- the rule looks at motion, with v > 0, in PRE and VYL
   abbrev pub watchesMotion : Bool
   watchesMotion = preOrVyl mode && ltb 0 (r .v)
 

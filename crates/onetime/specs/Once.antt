@@ -19,7 +19,7 @@ lead card = cond (leb (card .set) 1000) 150 100
 unfoldable pub exceeds : Card → Curve → ℕ → ℕ → ℕ → Bool
 exceeds card curve t v age = beyond card (curveValue card curve t age) v
 
--- u was above 0
+-- u is above 0: of the old one in step 8, of the new one in the marks
 abbrev pub prompting : Once → Bool
 prompting old = ltb 0 (old .ticks)
 
