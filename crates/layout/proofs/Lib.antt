@@ -1,2 +1,3 @@
 pub mod Written
 pub mod U16
+pub mod Slices

@@ -1,10 +1,10 @@
 -- What a test of ranges says: `simp (and-iff, leb-iff, either-iff)` turns a chain of them into its facts and back.
 -- By cases on the Bools. Assumes nothing.
-use Prim.Native.Nat.{ℕ, _≤_}
+use Prim.Native.Nat.{ℕ, _≤_, _<_}
 use mathlib.Core.Path.{_≡_, refl}
-use mathlib.Core.Bool.{Bool, true, false, not, _&&_, _||_, true≢false, false≢true, or-true}
+use mathlib.Core.Bool.{Bool, true, false, not, _&&_, _||_, decide, true≢false, false≢true, or-true}
 use mathlib.Core.Logic.{_⊎_, inl, inr, ⊎-elim, _↔_}
-use borrow.Author.Tests.{leb-true, le-leb, eqb-true, eq-eqb}
+use borrow.Author.Tests.{leb-true, leb-false, le-leb, eqb-true, eq-eqb}
 use lib.Dec.{leb, eqb}
 
 and-both : (a b : Bool) → (a && b) ≡ true → (a ≡ true) × (b ≡ true)
@@ -21,14 +21,31 @@ and-iff a b = (and-both a b, both-and a b)
 pub leb-iff : (a b : ℕ) → (leb a b ≡ true) ↔ (a ≤ b)
 leb-iff a b = (leb-true a b, le-leb a b)
 
+pub le-or-lt : (a b : ℕ) → (a ≤ b) ⊎ (b < a)
+le-or-lt a b = go (leb a b) refl
+  where
+    go : (t : Bool) → leb a b ≡ t → (a ≤ b) ⊎ (b < a)
+    go true e = inl (leb-true a b e)
+    go false e = inr (leb-false a b e)
+
 or-either : (a b : Bool) → (a || b) ≡ true → (a ≡ true) ⊎ (b ≡ true)
 or-either true b h = inl refl
 or-either false b h = inr h
 
+pub or-iff : (a b : Bool) → ((a || b) ≡ true) ↔ ((a ≡ true) ⊎ (b ≡ true))
+or-iff a b = (or-either a b, ⊎-elim (λ e. rw e) (λ e. rw e (or-true a)))
+
+-- a test that says yes exactly where P holds is the decision of P
+pub decided : {P : Type 0} (d : Dec P) (b : Bool) → (b ≡ true) ↔ P → b ≡ decide d
+unfolding decide
+decided (yes p) b h = h .1 p
+decided (no n) true h = absurd (n (h .0 refl))
+decided (no n) false h = refl
+
 -- a number that is one of two
 pub either-iff : (x a b : ℕ) → ((eqb x a || eqb x b) ≡ true) ↔ ((x ≡ a) ⊎ (x ≡ b))
 either-iff x a b = (
-  λ h. ⊎-elim (λ e. inl (eqb-true x a e)) (λ e. inr (eqb-true x b e)) (or-either (eqb x a) (eqb x b) h),
+  λ h. ⊎-elim (λ e. inl (eqb-true x a e)) (λ e. inr (eqb-true x b e)) (or-iff (eqb x a) (eqb x b) .0 h),
   ⊎-elim (λ e. rw (eq-eqb x a e)) (λ e. rw (eq-eqb x b e) (or-true (eqb x a))),
 )
 

@@ -53,6 +53,16 @@ shortBuffer = 12
 abbrev pub noSuchCard : ℕ
 noSuchCard = 13
 
+-- of texts: the chosen table is bad, the message number is not below its count, there is no such language
+abbrev pub badTable : ℕ
+badTable = 15
+
+abbrev pub noSuchMessage : ℕ
+noSuchMessage = 16
+
+abbrev pub noSuchLanguage : ℕ
+noSuchLanguage = 17
+
 -- of two numbers the first that is not 0; 0 if both are
 unfoldable pub firstRefusal : ℕ → ℕ → ℕ
 firstRefusal first second = cond (eqb first 0) second first

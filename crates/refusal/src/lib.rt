@@ -28,6 +28,12 @@ pub const SHORT_BUFFER: u8 = 12;
 
 pub const NO_SUCH_CARD: u8 = 13;
 
+pub const BAD_TABLE: u8 = 15;
+
+pub const NO_SUCH_MESSAGE: u8 = 16;
+
+pub const NO_SUCH_LANGUAGE: u8 = 17;
+
 // Of two numbers the first that is not 0; 0 if both are.
 pub fn first_refusal(first: u8, second: u8) -> u8
     ensures { λ r. ⌜ r ≡ firstRefusal first second ⌝ }

@@ -1,0 +1,37 @@
+use Rattle.utf8.specs.Rows.{four}
+use borrow.Author.Needs.{needs}
+use Rattle.utf8.proofs.four.Statement.{statement}
+use Rattle.utf8.proofs.four.Tie as tie
+
+row-requires : tie.Need-row-requires
+row-requires c κs = search needs
+
+row-requires-2 : tie.Need-row-requires-2
+row-requires-2 c κs = search needs
+
+row-requires-3 : tie.Need-row-requires-3
+row-requires-3 c κs = search needs
+
+follows-requires : tie.Need-follows-requires
+follows-requires c κs = search needs
+
+follows-requires-2 : tie.Need-follows-requires-2
+follows-requires-2 c κs = search needs
+
+returns : tie.Need-returns
+unfolding four
+returns c =
+    let at-row2 = c .before .before .before .row2 in
+    let at-row = c .before .before .before .before .row in
+    simp (← c .follows2 .ensures, ← c .before .follows .ensures, ← c .before .before .row3 .ensures, ← at-row2 .ensures, ← at-row .ensures)
+
+pub four-spec : {M : Type 1} → statement M
+four-spec =
+    tie.close
+    (tie.spec
+    row-requires
+    row-requires-2
+    row-requires-3
+    follows-requires
+    follows-requires-2
+    returns)

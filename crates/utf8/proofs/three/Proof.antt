@@ -1,0 +1,31 @@
+use Rattle.utf8.specs.Rows.{three}
+use borrow.Author.Needs.{needs}
+use Rattle.utf8.proofs.three.Statement.{statement}
+use Rattle.utf8.proofs.three.Tie as tie
+
+row-requires : tie.Need-row-requires
+row-requires c κs = search needs
+
+row-requires-2 : tie.Need-row-requires-2
+row-requires-2 c κs = search needs
+
+row-requires-3 : tie.Need-row-requires-3
+row-requires-3 c κs = search needs
+
+row-requires-4 : tie.Need-row-requires-4
+row-requires-4 c κs = search needs
+
+follows-requires : tie.Need-follows-requires
+follows-requires c κs = search needs
+
+returns : tie.Need-returns
+unfolding three
+returns c =
+    let at-row2 = c .before .before .before .row2 in
+    let at-row = c .before .before .before .before .row in
+    simp (← c .follows .ensures, ← c .before .row4 .ensures, ← c .before .before .row3 .ensures, ← at-row2 .ensures, ← at-row .ensures)
+
+pub three-spec : {M : Type 1} → statement M
+three-spec =
+    tie.close
+    (tie.spec row-requires row-requires-2 row-requires-3 row-requires-4 follows-requires returns)
