@@ -1,10 +1,14 @@
--- The host call's contract determines the number and every byte of the buffer: two outcomes that satisfy it are equal.
+-- The host calls' contracts determine what they return and every byte of the buffer: two outcomes that satisfy one are equal.
 -- `Post` is the contract as the check reads it off the source; `s .1 .1 .0` is the buffer, the third parameter, at exit.
 use mathlib.Core.Path.{_≡_}
 use denote.Ref.{now}
 use contract.Lifetimes.{Lfts}
 use Rattle.numbers.proofs.Alike.{alike}
 use Rattle.host.proofs.foldharbor_run_exercise.Reads as calling
+use Rattle.host.proofs.foldharbor_text.Reads as telling
 
 pub call-determined : (κs : Lfts 2) (a : _) (x y : _) (s t : _) → calling.Post κs a x s → calling.Post κs a y t → (x ≡ y) × (now (s .1 .1 .0) ≡ now (t .1 .1 .0))
 call-determined κs a x y s t p q = (alike (p .0) (q .0), alike (p .1) (q .1))
+
+pub text-determined : (κs : Lfts 2) (a : _) (x y : _) (s t : _) → telling.Post κs a x s → telling.Post κs a y t → x ≡ y
+text-determined κs a x y s t p q = alike p q

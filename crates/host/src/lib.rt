@@ -1,8 +1,10 @@
-// The call that a host program links: host/foldharbor.h declares it for C and C++.
+// The calls that a host program links: host/foldharbor.h declares them for C and C++.
 ghost use mathlib.Core.Path.{_≡_};
 ghost use lib.ListN.{length};
 ghost use Rattle.exercise.specs.Run.{exerciseOutcome, exerciseBuffer};
+ghost use Rattle.texts.specs.Text.{textPlace};
 ghost use Rattle.host.specs.Host.{hostNumber};
+use texts::Place;
 
 // A refusal is this plus its number.
 const REFUSED: u32 = 10000;
@@ -17,4 +19,12 @@ pub extern "C" fn foldharbor_run_exercise(exercise: &[u8], card: u32, answers: &
         return REFUSED + (ran.refusal as u32);
     }
     ran.ticks as u32
+}
+
+// A text's place and not the text: an exported function can't return a reference.
+#[no_mangle]
+pub extern "C" fn foldharbor_text(first: &[u8], second: &[u8], language: u32, message: u32) -> Place
+    ensures { λ r. ⌜ r ≡ textPlace (now (first .entry)) (now (second .entry)) language message ⌝ }
+{
+    texts::text_place(first, second, language, message)
 }

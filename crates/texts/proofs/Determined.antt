@@ -7,7 +7,7 @@ use Rattle.numbers.proofs.Alike.{alike}
 use Rattle.texts.proofs.text_place.Reads as placing
 use Rattle.texts.proofs.text.Reads as telling
 
-pub place-determined : (κs : Lfts 1) (a : _) (x y : _) (s t : _) → placing.Post κs a x s → placing.Post κs a y t → x ≡ y
+pub place-determined : (κs : Lfts 2) (a : _) (x y : _) (s t : _) → placing.Post κs a x s → placing.Post κs a y t → x ≡ y
 place-determined κs a x y s t p q = alike p q
 
 pub text-determined : (κs : Lfts 2) (a : _) (x y : _) (s t : _) → telling.Post κs a x s → telling.Post κs a y t

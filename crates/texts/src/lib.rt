@@ -110,7 +110,7 @@ fn place_in(table: &[u8], language: u32, message: u32) -> Place
 }
 
 // The place of a message in the first table (language 1) or in the second (2).
-pub fn text_place<'a>(first: &'a [u8], second: &'a [u8], language: u32, message: u32) -> Place
+pub fn text_place(first: &[u8], second: &[u8], language: u32, message: u32) -> Place
     ensures { λ r. ⌜ r ≡ textPlace (now (first .entry)) (now (second .entry)) language message ⌝ }
 {
     if language == 2 {
