@@ -1,6 +1,6 @@
 -- What a list is once others are written over a part of it: as long as before, the new bytes in that part, every other byte as it was.
 -- By the parts before, in and after the place; stores one after the other by `sets-eq`. Assumes nothing.
-use Prim.Native.Nat.{ℕ, _+_, _-_, _≤_, _<_}
+use Prim.Native.Nat.{ℕ, suc, _+_, _-_, _≤_, _<_}
 use native.Mathlib.Nat.{add-zero, add-assoc}
 use native.Mathlib.Numerals.{add-one, add-two, add-three, add-four, add-five, add-six, add-seven}
 use native.Mathlib.Omega.{arith}
@@ -58,6 +58,18 @@ written-append l at a b fits =
     ∙ ap (λ (y : List ℕ). p ++ b ++ y)
     (sym (drop-drop (length b) n (p ++ drop n l)) ∙ ap (drop (length b)) (drop-at p (drop n l) n e) ∙ drop-drop (length b) n l)
     ∙ simp (append-assoc, length-append, add-assoc)
+
+-- one more byte, and what is written behind it
+pub store-then : (l : List ℕ) (at a : ℕ) (new : List ℕ) → at + suc (length new) ≤ length l
+    → written (set l at a) (at + 1) new ≡ written l at (a ∷ new)
+unfolding written
+store-then l at a new fits =
+    let one : set l at a ≡ written l at (a ∷ []) = sets-eq (a ∷ []) l at (omega arith) in
+    ap (λ (x : List ℕ). written x (at + 1) new) one ∙ written-append l at (a ∷ []) new (omega arith)
+
+pub two-stores : (l : List ℕ) (at a b : ℕ) → at + 2 ≤ length l → set (set l at a) (at + 1) b ≡ written l at (a ∷ b ∷ [])
+unfolding written
+two-stores l at a b fits = rw add-one (sets-eq (a ∷ b ∷ []) l at fits)
 
 pub eight-stores : (l : List ℕ) (at a b c d e f g h : ℕ) → at + 8 ≤ length l
     → set (set (set (set (set (set (set (set l at a) (at + 1) b) (at + 2) c) (at + 3) d) (at + 4) e) (at + 5) f) (at + 6) g) (at + 7) h

@@ -3,7 +3,7 @@ ghost use mathlib.Core.Path.{_≡_};
 ghost use mathlib.Core.List.{[], _∷_};
 ghost use Prim.Native.Nat.{_+_, _≤_};
 ghost use lib.ListN.{length, getD};
-ghost use Rattle.layout.specs.Layout.{u16At, written};
+ghost use Rattle.layout.specs.Layout.{u16At, u16Bytes, written};
 
 // The byte `k` places after `at`.
 pub fn byte_at(bytes: &[u8], at: usize, k: usize) -> u8
@@ -28,6 +28,15 @@ pub fn u16_at(bytes: &[u8], at: usize, k: usize) -> u16
     let low = byte_at(bytes, at, k);
     let high = byte_at(bytes, at, k + 1);
     low as u16 + 256 * (high as u16)
+}
+
+// Writes a u16 from `at`, its low byte first.
+pub fn put_u16(bytes: &mut [u8], at: usize, x: u16)
+    requires { ⌜ at + 2 ≤ length (now bytes) ⌝ }
+    ensures { λ _. ⌜ now (bytes .exit) ≡ written (now (bytes .entry)) at (u16Bytes x) ⌝ }
+{
+    bytes[at] = (x % 256) as u8;
+    bytes[at + 1] = (x / 256 % 256) as u8;
 }
 
 // Writes eight bytes from `at`.

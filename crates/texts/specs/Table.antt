@@ -12,6 +12,10 @@ use Rattle.utf8.proofs.Utf8.{utf8?}
 abbrev pub mostMessages : ℕ
 mostMessages = 64
 
+-- the longest table: a u16 offset says where it ends
+abbrev pub tableMost : ℕ
+tableMost = 65535
+
 -- the count, then one offset more than messages
 abbrev pub headerWidth : ℕ → ℕ
 headerWidth messages = 2 + 2 * (messages + 1)

@@ -1,8 +1,8 @@
 // Texts in two languages: the part of a lent table that a message number and a language choose.
 ghost use mathlib.Core.Path.{_≡_};
-ghost use Prim.Native.Nat.{_^_, _≤_, _<_};
+ghost use Prim.Native.Nat.{_+_, _*_, _^_, _≤_, _<_};
 ghost use Rattle.numbers.specs.All.{allBelow};
-ghost use Rattle.texts.specs.Table.{offset, headerGood, messageGood, tableGood};
+ghost use Rattle.texts.specs.Table.{headerWidth, offset, headerGood, messageGood, tableGood};
 ghost use Rattle.texts.specs.Text.{languageRefusal, tableRefusal, placeIn, textPlace, textPart};
 use layout::u16_at;
 
@@ -14,10 +14,18 @@ pub struct Place {
     pub end: u16,
 }
 
-// A table's messages are at most so many, so that its length fits a u16 offset.
+// The longest table: a u16 offset says where it ends.
 pub const TABLE_MOST: usize = 65535;
 
-const MOST_MESSAGES: usize = 64;
+pub const MOST_MESSAGES: usize = 64;
+
+// The count, then one offset more than messages.
+pub fn header_width(messages: usize) -> usize
+    requires { ⌜ messages ≤ 65535 ⌝ }
+    ensures { λ r. ⌜ (r ≡ headerWidth messages) × (r ≤ 4 + 2 * messages) ⌝ }
+{
+    2 + 2 * (messages + 1)
+}
 
 // Where a message begins, and the one before it ends.
 fn offset(table: &[u8], i: usize) -> u16
@@ -33,7 +41,7 @@ fn header_good(table: &[u8]) -> bool
     let count = u16_at(table, 0, 0) as usize;
     let first = offset(table, 0) as usize;
     let last = offset(table, count) as usize;
-    (1 <= count) & (count <= MOST_MESSAGES) & (first == 2 + 2 * (count + 1)) & (last == table.len())
+    (1 <= count) & (count <= MOST_MESSAGES) & (first == header_width(count)) & (last == table.len())
 }
 
 fn message_good(table: &[u8], i: usize) -> bool

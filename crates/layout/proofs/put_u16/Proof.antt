@@ -1,0 +1,49 @@
+-- `put_u16` writes the two bytes of a u16: two stores are one list written.
+use lib.ListN.{length-set}
+use native.Mathlib.Omega.{arith}
+use borrow.Author.Needs.{needs}
+use Rattle.layout.proofs.Written.{two-stores}
+use Rattle.layout.proofs.put_u16.Statement.{statement}
+use Rattle.layout.proofs.put_u16.Tie as tie
+use Rattle.layout.proofs.put_u16.Reads as reads
+use Rattle.layout.proofs.put_u16.Lts as lts
+
+-- src/lib.rt:38:17
+cast-bytes : tie.Need-cast-bytes
+cast-bytes c = search needs
+
+-- src/lib.rt:38:5
+slice-write-bytes : tie.Need-slice-write-bytes
+slice-write-bytes c = search needs
+
+-- src/lib.rt:39:21
+cast-bytes-2 : tie.Need-cast-bytes-2
+cast-bytes-2 c = search needs
+
+-- src/lib.rt:39:11
+add-bytes : tie.Need-add-bytes
+add-bytes c = search needs
+
+-- src/lib.rt:39:5
+slice-write-bytes-2 : tie.Need-slice-write-bytes-2
+slice-write-bytes-2 c = simp length-set (omega arith)
+
+-- src/lib.rt:34:1
+same-length : tie.Need-same-length
+same-length c = search needs
+
+-- src/lib.rt:34:1
+returns : tie.Need-returns
+returns c = two-stores _ _ _ _ (c .pre)
+
+pub put-u16-spec : {M : Type 1} → statement M
+put-u16-spec =
+    tie.close
+    (tie.spec
+    cast-bytes
+    slice-write-bytes
+    cast-bytes-2
+    add-bytes
+    slice-write-bytes-2
+    same-length
+    returns)
