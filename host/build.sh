@@ -1,6 +1,6 @@
 #!/bin/sh
 # Builds a C program against the archive: host/build.sh OUT SOURCES.. (compiler options may stand among the sources).
-# compare.c and bench.c go with generate.c and model.c; vectors.c and example.c stand alone.
+# compare.c and bench.c go with generate.c and model.c; vectors.c, texts.c and example.c stand alone.
 # The archive target/staticlib/libhost.a is made before by `rt staticlib host`, for x86-64 on every machine.
 # Debian packages: on x86-64 gcc and libc6-dev; on Arm clang, lld and libc6-dev.
 set -eu

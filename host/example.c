@@ -1,44 +1,83 @@
-/* Shows how a host uses the call: runs each card of an exercise and tells how the desk stood at the end. */
+/*
+ * Shows how a host uses the calls: runs each card of an exercise and tells how the desk stood at the end, in the
+ * words of two tables of texts.
+ *
+ *   example EXERCISE FIRST SECOND
+ */
 #include <stdio.h>
+#include <stdlib.h>
 
 #include "foldharbor.h"
 
 static uint8_t exercise[FOLDHARBOR_MOST_BYTES + 1]; /* one byte more, so that a longer file is seen and refused */
+static uint8_t tables[2][FOLDHARBOR_MOST_TABLE_BYTES + 1]; /* likewise */
+static size_t lengths[2];
 static uint8_t answers[FOLDHARBOR_ANSWER_BYTES * FOLDHARBOR_MOST_TICKS];
+
+/* Reads the file, or as much of it as there is room for, and gives the count of bytes. */
+static size_t load(const char *path, uint8_t *bytes, size_t room)
+{
+    FILE *file = fopen(path, "rb");
+    size_t length = file ? fread(bytes, 1, room, file) : 0;
+
+    if (!file || ferror(file)) {
+        perror(path);
+        exit(2);
+    }
+    fclose(file);
+    return length;
+}
+
+/* Prints a line in each language. */
+static void print_message(uint32_t message)
+{
+    for (uint32_t language = 1; language <= 2; language++) {
+        const char *table = (const char *)tables[language - 1];
+        foldharbor_place place = foldharbor_text(tables[0], lengths[0], tables[1], lengths[1], language, message);
+
+        if (place.refusal != 0)
+            printf("    refused %u\n", place.refusal);
+        else
+            printf("    %.*s\n", place.end - place.start, table + place.start);
+    }
+}
 
 static void print_answer(const uint8_t *answer)
 {
-    static const char *const marks[] = {"MAN",         "braking curve", "cyclic prompt", "one-time prompt",
-                                        "(of kind 1)", "ZS20"};
-    static const char *const causes[] = {"vigilance not confirmed", "too fast", "moved against the direction set",
-                                         "stopped from outside", "stood too long with brakes released"};
+    const unsigned prompt_and_kind = FOLDHARBOR_ONE_TIME_PROMPT | FOLDHARBOR_ONE_TIME_KIND;
     unsigned permitted = answer[0] + 256u * answer[1];
     unsigned target = answer[2] + 256u * answer[3];
+    unsigned marks = answer[4], causes = answer[5];
 
     printf("  permitted %u.%u km/h", permitted / 10, permitted % 10);
     if (target > 0)
         printf(", target %u.%u km/h", target / 10, target % 10);
-    printf("\n  shown:");
+    printf("\n  shown:%s\n", marks == 0 ? " nothing" : "");
     for (unsigned bit = 0; bit < 6; bit++)
-        if (answer[4] >> bit & 1)
-            printf(" %s", marks[bit]);
-    printf(answer[4] == 0 ? " nothing\n" : "\n");
-    printf("  valve %s, causes held: %u\n", answer[5] != 0 ? "open" : "closed", answer[7]);
+        if ((marks & ~prompt_and_kind) >> bit & 1)
+            print_message(FOLDHARBOR_TEXT_MARK + bit);
+    if (marks & FOLDHARBOR_ONE_TIME_PROMPT)
+        print_message(FOLDHARBOR_TEXT_ONE_TIME_PROMPT + (marks & FOLDHARBOR_ONE_TIME_KIND ? 1 : 0));
+    printf("  valve %s, causes held: %u\n", causes != 0 ? "open" : "closed", answer[7]);
     for (unsigned bit = 0; bit < 5; bit++)
-        if (answer[5] >> bit & 1)
-            printf("    NZ%u: %s\n", bit + 1, causes[bit]);
+        if (causes >> bit & 1)
+            print_message(FOLDHARBOR_TEXT_CAUSE + bit);
 }
 
 int main(int count, char **arguments)
 {
-    FILE *file = count > 1 ? fopen(arguments[1], "rb") : stdin;
-
-    if (!file) {
-        perror(arguments[1]);
+    if (count != 4) {
+        fprintf(stderr, "usage: example EXERCISE FIRST SECOND\n");
         return 2;
     }
-    size_t length = fread(exercise, 1, sizeof exercise, file);
-    fclose(file);
+    size_t length = load(arguments[1], exercise, sizeof exercise);
+    for (int i = 0; i < 2; i++) {
+        lengths[i] = load(arguments[2 + i], tables[i], sizeof tables[i]);
+        if (lengths[i] > FOLDHARBOR_MOST_TABLE_BYTES) {
+            fprintf(stderr, "%s: too long for a table of texts\n", arguments[2 + i]);
+            return 2;
+        }
+    }
 
     for (uint32_t card = 1;; card++) {
         uint32_t ticks = foldharbor_run_exercise(exercise, length, card, answers, sizeof answers);
@@ -47,6 +86,7 @@ int main(int count, char **arguments)
             return 0;
         if (ticks > FOLDHARBOR_REFUSED) {
             printf("refused %u\n", (unsigned)ticks - FOLDHARBOR_REFUSED);
+            print_message(FOLDHARBOR_TEXT_REFUSAL + ticks - FOLDHARBOR_REFUSED);
             return 1;
         }
         printf("card %u, ticks %u\n", (unsigned)card, (unsigned)ticks);

@@ -1,6 +1,10 @@
 /*
- * Foldharbor: the call that runs a whole exercise on the train-protection desk.
- * Link with libhost.a. Usable from C and from C++.
+ * Foldharbor, the train-protection desk, in two calls:
+ *
+ *   foldharbor_run_exercise   runs a whole exercise and gives an answer for each tick
+ *   foldharbor_text           finds a message's text in a table of texts, in one of two languages
+ *
+ * Link with libhost.a. Usable from C and from C++. Nothing is kept from one call to the next.
  */
 #ifndef FOLDHARBOR_H
 #define FOLDHARBOR_H
@@ -19,7 +23,7 @@ enum {
 };
 
 /*
- * What the call returns when it refuses: 10,000 and the number of the refusal.
+ * What foldharbor_run_exercise returns when it refuses: 10,000 and the number of the refusal.
  * They are listed in the order in which they are looked for; the first that applies is returned.
  * The two about a run are looked for in one run after the other, so an earlier run comes first.
  */
@@ -71,13 +75,77 @@ enum { /* bits of the causes */
  * A refusal returns one of the numbers above and leaves the whole buffer as it was.
  *
  * Both pointers are valid for their lengths, not null even if the length is 0, and the two areas do not overlap.
- * Nothing is kept from one call to the next.
  *
  * The file: five 16-bit numbers (count of cards, count of runs, offset of the cards, which is 10, offset of the
  * runs, total length), the cards of 20 bytes, the runs of 10 bytes (ticks in 16 bits, a record of 8 bytes).
  */
 uint32_t foldharbor_run_exercise(const uint8_t *exercise, size_t exercise_length, uint32_t card, uint8_t *answers,
                                  size_t answers_length);
+
+/*
+ * A table of texts has the messages of one language. Its numbers have 16 bits, low byte first:
+ *
+ *   count       how many messages, 1 to 64
+ *   offsets     count + 1 of them, from the table's first byte: message k is from offset k up to offset k + 1
+ *   messages    in UTF-8, one right behind the other with nothing between them, no zero byte either
+ *
+ * The first offset is the place just after the offsets, 4 + 2 * count. No offset is below the one before it, so a
+ * message may be empty. The last offset is the table's length, so a table has 65,535 bytes at most. Each message is
+ * well-formed by itself, as the Unicode Standard defines UTF-8: no character is split over two messages.
+ */
+enum {
+    FOLDHARBOR_MOST_TABLE_BYTES = 65535,
+    FOLDHARBOR_MOST_MESSAGES = 64 /* in a table */
+};
+
+/*
+ * Why foldharbor_text refuses: the number of the refusal, here without the 10,000.
+ * They are listed in the order in which they are looked for; the first that applies is given.
+ */
+enum {
+    FOLDHARBOR_NO_LANGUAGE = 17, /* the language is neither 1 nor 2 */
+    FOLDHARBOR_BAD_TABLE = 15,   /* anything in the chosen table is not as said above, in whatever message */
+    FOLDHARBOR_NO_MESSAGE = 16   /* the message's number is not below the chosen table's count */
+};
+
+/* Where a text is in its table: from start up to end, which is the place behind its last byte. */
+typedef struct foldharbor_place {
+    uint8_t refusal; /* 0, or one of the numbers above; start and end are 0 then */
+    uint16_t start;
+    uint16_t end;
+} foldharbor_place;
+
+/*
+ * Finds the text of a message. It is a part of the chosen table and no copy.
+ *
+ *   first, first_length     the table of language 1
+ *   second, second_length   the table of language 2
+ *   language                which of them is the chosen one, 1 or 2; any number may be handed over
+ *   message                 which message, counted from 0; any number may be handed over
+ *
+ * Returns the text's place in the chosen table, which is judged as a whole in each call. The other table has no
+ * influence and may be bad. Neither is ever changed. With table for the chosen one, the text is printed by
+ *
+ *   printf("%.*s", place.end - place.start, (const char *)table + place.start);
+ *
+ * A refusal's place is empty, so that this prints nothing. UTF-8 allows a zero byte in a message; printf stops there.
+ *
+ * Both pointers are valid for their lengths, whatever the language, and not null even if the length is 0. The two
+ * tables may be the same or overlap.
+ */
+foldharbor_place foldharbor_text(const uint8_t *first, size_t first_length, const uint8_t *second, size_t second_length,
+                                 uint32_t language, uint32_t message);
+
+/* The numbers of the desk's own messages, the same in its English and in its Slovak table (see texts/README.md). */
+enum {
+    FOLDHARBOR_TEXT_CAUSE = 0,            /* + bit in the causes, 0 to 7; no answer has bits 5 to 7 yet */
+    FOLDHARBOR_TEXT_MARK = 8,             /* + bit in the marks, 0 to 2 and 5 */
+    FOLDHARBOR_TEXT_ONE_TIME_PROMPT = 11, /* + kind of that prompt, 0 or 1: bit 4 of the marks where bit 3 is set */
+    FOLDHARBOR_TEXT_CODE = 14,            /* + signal code, 0 to 4: none, Stop, Warning, 40 and warning, Clear */
+    FOLDHARBOR_TEXT_MODE = 18,            /* + mode, 1 to 4: POS, PRE, VYL, ZAV */
+    FOLDHARBOR_TEXT_REFUSAL = 22,         /* + number of the refusal, 1 to 17, without the 10,000 */
+    FOLDHARBOR_TEXTS = 40                 /* how many there are */
+};
 
 #ifdef __cplusplus
 }

@@ -19,21 +19,6 @@ struct driver {
     bool gap_made;         /* the last run was a gap in the code, so that the next has a code */
 };
 
-uint32_t dice_roll(struct dice *dice, uint32_t sides)
-{
-    uint64_t mixed = dice->state += 0x9E3779B97F4A7C15u; /* splitmix64 */
-
-    mixed = (mixed ^ mixed >> 30) * 0xBF58476D1CE4E5B9u;
-    mixed = (mixed ^ mixed >> 27) * 0x94D049BB133111EBu;
-    mixed ^= mixed >> 31;
-    return (mixed >> 32) * sides >> 32;
-}
-
-bool dice_once_in(struct dice *dice, uint32_t sides)
-{
-    return dice_roll(dice, sides) == 0;
-}
-
 static uint32_t between(struct dice *dice, uint32_t least, uint32_t most)
 {
     return least + dice_roll(dice, most - least + 1);

@@ -2,19 +2,10 @@
 #ifndef FOLDHARBOR_GENERATE_H
 #define FOLDHARBOR_GENERATE_H
 
-#include <stdbool.h>
 #include <stddef.h>
 #include <stdint.h>
 
-struct dice {
-    uint64_t state;
-};
-
-/* A number from 0 to sides - 1. */
-uint32_t dice_roll(struct dice *dice, uint32_t sides);
-
-/* True once in so many rolls. */
-bool dice_once_in(struct dice *dice, uint32_t sides);
+#include "dice.h"
 
 /*
  * Writes an exercise of exactly so many cards, runs and ticks (at least one tick a run) and gives its length.

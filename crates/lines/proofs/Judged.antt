@@ -14,12 +14,15 @@ use Rattle.utf8.specs.Utf8.{Utf8}
 use Rattle.utf8.proofs.Utf8.{utf8?}
 use Rattle.texts.specs.Table.{mostMessages, tableMost, headerWidth}
 use Rattle.lines.specs.Lines.{lines, firstLine}
-use Rattle.lines.specs.Table.{tableOf, Room}
+use Rattle.lines.specs.Table.{offsets, tableOf, Room}
 use Rattle.lines.specs.Made.{madeAfter, madeOf, made, bytesOf}
 use Rattle.lines.specs.declared.Fault.{Fault}
 use Rattle.lines.specs.declared.Fault.the-variants.{NoLine, TooMany, TooLong, NotUtf8}
 use Rattle.lines.specs.declared.Made.{Made}
 use Rattle.lines.specs.declared.Made.the-variants.{Table, Bad}
+use Rattle.layout.specs.Layout.{written}
+use Rattle.layout.proofs.Written.{written-nil, length-written}
+use Rattle.lines.proofs.Offsets.{offsets-length}
 use Rattle.lines.proofs.Split.{lines-none, lines-some, lines-at, lines-past, line-slice}
 
 -- ---- no line, and some
@@ -73,8 +76,8 @@ whole [] count bytes n m l h e =
     record { counts = omega arith; long = omega arith; most = omega arith; short = omega arith; each = λ i k. absurd (omega arith) }
 whole (line ∷ rest) count bytes n m l h e =
     let t =
-        three-no (ltb mostMessages (count + 1)) (ltb tableMost (headerWidth (count + 1) + bytes + length line)) (not (decide (utf8? line))) TooMany TooLong NotUtf8
-        (count + 1) (madeAfter (count + 1) (bytes + length line) rest) n m e in
+    three-no (ltb mostMessages (count + 1)) (ltb tableMost (headerWidth (count + 1) + bytes + length line)) (not (decide (utf8? line))) TooMany TooLong NotUtf8
+    (count + 1) (madeAfter (count + 1) (bytes + length line) rest) n m e in
     let room = ltb-false mostMessages (count + 1) (t .0) in
     let fits = ltb-false tableMost (headerWidth (count + 1) + bytes + length line) (t .1) in
     let w = whole rest (count + 1) (bytes + length line) n m (omega arith) (omega arith) (t .3) in
@@ -97,10 +100,21 @@ unfolding madeOf
 table-whole [] n m e = absurd (let k : _≡_ {A = ℕ} 0 1 = cc in omega arith)
 table-whole (line ∷ rest) n m e = whole (line ∷ rest) 0 0 n m (omega arith) (omega arith) e
 
+pub table-short : (messages : List (List ℕ)) (n m : ℕ) → madeOf messages ≡ Table n m → m ≤ tableMost
+table-short messages n m e = table-whole messages n m e .short
+
 pub table-room : (messages : List (List ℕ)) (n m room : ℕ) → tableMost ≤ room → madeOf messages ≡ Table n m → Room messages n room
 table-room messages n m room h e =
     let w = table-whole messages n m e in
     record { counts = omega (arith, w .counts); short = omega (arith, w .long, w .short); fits = omega (arith, w .long, w .short) }
+
+table-fits : (messages : List (List ℕ)) (n m : ℕ) → madeOf messages ≡ Table n m → length (tableOf messages) ≤ tableMost
+unfolding tableOf
+table-fits messages n m e =
+    let room = table-room messages n m tableMost (omega arith) e in
+    let long = offsets-length messages (headerWidth (length messages)) in
+    let whole = length-append (offsets (headerWidth (length messages)) messages) (flatten messages) in
+    omega (arith, room .counts, room .short)
 
 -- ---- the bytes that are written
 pub bytes-table : (messages : List (List ℕ)) (n m : ℕ) → madeOf messages ≡ Table n m → bytesOf (madeOf messages) messages ≡ tableOf messages
@@ -110,3 +124,12 @@ bytes-table messages n m e = rw e
 pub bytes-bad : (messages : List (List ℕ)) (fault : Fault) (line : ℕ) → madeOf messages ≡ Bad fault line → bytesOf (madeOf messages) messages ≡ []
 unfolding bytesOf
 bytes-bad messages fault line e = rw e
+
+-- what is written fits, so that the buffer keeps its length
+pub buffer-kept : (messages : List (List ℕ)) (l : List ℕ) → length l ≡ tableMost → length (written l 0 (bytesOf (madeOf messages) messages)) ≡ tableMost
+unfolding bytesOf
+buffer-kept messages l h = go (madeOf messages) refl
+  where
+    go : (m : Made) → madeOf messages ≡ m → length (written l 0 (bytesOf (madeOf messages) messages)) ≡ tableMost
+    go (Table n m) e = let fits = table-fits messages n m e in rw e (length-written l 0 (tableOf messages) (omega arith) ∙ h)
+    go (Bad fault line) e = rw e (ap length (written-nil l 0) ∙ h)

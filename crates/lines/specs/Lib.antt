@@ -1,3 +1,4 @@
 pub mod Lines
 pub mod Table
 pub mod Made
+pub mod Making

@@ -101,7 +101,9 @@ fn table_refusal(table: &[u8], message: u32) -> u8
 fn place_in(table: &[u8], language: u32, message: u32) -> Place
     ensures { λ r. ⌜ r ≡ placeIn (now (table .entry)) language message ⌝ }
 {
-    let refusal = refusal::first_refusal(language_refusal(language), table_refusal(table, message));
+    let by_language = language_refusal(language);
+    let by_table = table_refusal(table, message);
+    let refusal = refusal::first_refusal(by_language, by_table);
     if refusal != 0 {
         return Place {
             refusal: refusal,

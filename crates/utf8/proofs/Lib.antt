@@ -4,3 +4,4 @@ pub mod Utf8
 pub mod OneWay
 pub mod Places
 pub mod Counted
+pub mod Determined

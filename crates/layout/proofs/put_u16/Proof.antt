@@ -5,34 +5,25 @@ use borrow.Author.Needs.{needs}
 use Rattle.layout.proofs.Written.{two-stores}
 use Rattle.layout.proofs.put_u16.Statement.{statement}
 use Rattle.layout.proofs.put_u16.Tie as tie
-use Rattle.layout.proofs.put_u16.Reads as reads
-use Rattle.layout.proofs.put_u16.Lts as lts
 
--- src/lib.rt:38:17
 cast-bytes : tie.Need-cast-bytes
 cast-bytes c = search needs
 
--- src/lib.rt:38:5
 slice-write-bytes : tie.Need-slice-write-bytes
 slice-write-bytes c = search needs
 
--- src/lib.rt:39:21
 cast-bytes-2 : tie.Need-cast-bytes-2
 cast-bytes-2 c = search needs
 
--- src/lib.rt:39:11
 add-bytes : tie.Need-add-bytes
 add-bytes c = search needs
 
--- src/lib.rt:39:5
 slice-write-bytes-2 : tie.Need-slice-write-bytes-2
 slice-write-bytes-2 c = simp length-set (omega arith)
 
--- src/lib.rt:34:1
 same-length : tie.Need-same-length
 same-length c = search needs
 
--- src/lib.rt:34:1
 returns : tie.Need-returns
 returns c = two-stores _ _ _ _ (c .pre)
 

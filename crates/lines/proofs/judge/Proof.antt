@@ -23,23 +23,18 @@ Inv-loop text count₀ bytes₀ at₀ count bytes at =
 abbrev μ-loop : tie.MeasureT-loop
 μ-loop text count₀ bytes₀ at₀ count bytes at = length text - at
 
--- src/lib.rt:55:9
 returns : tie.Need-returns Inv-loop μ-loop
 returns c = sym (made-none _ (c .if1 .taken))
 
--- src/lib.rt:60:5
 loop-holds : tie.Need-loop-holds Inv-loop μ-loop
 loop-holds c = (omega arith, omega arith, made-some _ (c .if1 .left))
 
--- src/lib.rt:61:13
 line-end-requires : tie.Need-line-end-requires Inv-loop μ-loop
 line-end-requires c κs = search needs
 
--- src/lib.rt:62:20
 add-line : tie.Need-add-line Inv-loop μ-loop
 add-line c = omega arith
 
--- src/lib.rt:64:13
 returns-2 : tie.Need-returns-2 Inv-loop μ-loop
 returns-2 c =
     let at-end = c .before in
@@ -49,23 +44,18 @@ returns-2 c =
     let on = turn text (head .at) (at-end .line-end .result) (head .count) (head .bytes) (inside .loop-test .taken) (at-end .line-end .ensures .0) in
     sym (head .inv .2 ∙ on ∙ rw (lt-ltb _ _ (c .if2 .taken)))
 
--- src/lib.rt:66:25
 header-width-requires : tie.Need-header-width-requires Inv-loop μ-loop
 header-width-requires c κs = search needs
 
--- src/lib.rt:66:25
 add-if3 : tie.Need-add-if3 Inv-loop μ-loop
 add-if3 c = omega arith
 
--- src/lib.rt:66:62
 sub-if3 : tie.Need-sub-if3 Inv-loop μ-loop
 sub-if3 c = omega arith
 
--- src/lib.rt:66:25
 add-if3-2 : tie.Need-add-if3-2 Inv-loop μ-loop
 add-if3-2 c = omega arith
 
--- src/lib.rt:67:13
 returns-3 : tie.Need-returns-3 Inv-loop μ-loop
 returns-3 c =
     let at-end = c .before .before .before in
@@ -76,14 +66,13 @@ returns-3 c =
     let over = rw (c .before .header-width .ensures .0) at (c .if3 .taken) in
     sym (head .inv .2 ∙ on ∙ rw (le-ltb _ _ (c .before .before .if2 .left), lt-ltb _ _ over))
 
--- src/lib.rt:69:13
 is-utf8-requires : tie.Need-is-utf8-requires Inv-loop μ-loop
 is-utf8-requires c κs = search needs
 
--- src/lib.rt:70:13
 returns-4 : tie.Need-returns-4 Inv-loop μ-loop
 returns-4 c =
-    let at-end = c .before .before .before .before .before in
+    let at-before = c .before .before .before .before .before in
+    let at-end = at-before in
     let inside = at-end .before in
     let head = inside .before .loop in
     let text = inside .before .before .before .before .args .text .now in
@@ -93,26 +82,22 @@ returns-4 c =
     let bad = sym (decided (utf8? _) _ (c .before .is-utf8 .ensures)) ∙ not-true _ (c .if4 .taken) in
     sym (head .inv .2 ∙ on ∙ rw (le-ltb _ _ (at-width .before .if2 .left), le-ltb _ _ fits, bad))
 
--- src/lib.rt:73:18
 sub-bytes : tie.Need-sub-bytes Inv-loop μ-loop
 sub-bytes c = omega arith
 
--- src/lib.rt:73:9
 add-bytes : tie.Need-add-bytes Inv-loop μ-loop
 add-bytes c = omega arith
 
--- src/lib.rt:74:14
 add-at : tie.Need-add-at Inv-loop μ-loop
 add-at c = omega arith
 
--- src/lib.rt:60:5
 loop-less : tie.Need-loop-less Inv-loop μ-loop
 loop-less c = omega arith
 
--- src/lib.rt:60:5
 loop-again : tie.Need-loop-again Inv-loop μ-loop
 loop-again c =
-    let at-end = c .before .before .before .before .before in
+    let at-before = c .before .before .before .before .before in
+    let at-end = at-before in
     let inside = at-end .before in
     let head = inside .before .loop in
     let text = inside .before .before .before .before .args .text .now in
@@ -122,19 +107,17 @@ loop-again c =
     let good = sym (decided (utf8? _) _ (c .before .is-utf8 .ensures)) ∙ not-false _ (c .if4 .left) in
     (at-width .before .if2 .left, omega arith, head .inv .2 ∙ on ∙ rw (le-ltb _ _ (at-width .before .if2 .left), le-ltb _ _ fits, good))
 
--- src/lib.rt:76:24
 header-width-requires-2 : tie.Need-header-width-requires-2 Inv-loop μ-loop
 header-width-requires-2 c κs = search needs
 
--- src/lib.rt:76:24
 add-t19 : tie.Need-add-t19 Inv-loop μ-loop
 add-t19 c = omega arith
 
--- src/lib.rt:51:1
 returns-5 : tie.Need-returns-5 Inv-loop μ-loop
 returns-5 c =
+    let at-args = c .before .before .before .before .before .args in
     let head = c .before .before .loop in
-    let text = c .before .before .before .before .before .args .text .now in
+    let text = at-args .text .now in
     rw (c .header-width2 .ensures .0) (sym (head .inv .2 ∙ ended text (head .at) (head .count) (head .bytes) (c .before .loop-test .left)))
 
 pub judge-spec : {M : Type 1} → statement M

@@ -6,24 +6,16 @@ use Rattle.layout.proofs.Written.{written-nil}
 use Rattle.lines.proofs.Judged.{table-room, bytes-table, bytes-bad}
 use Rattle.lines.proofs.make.Statement.{statement}
 use Rattle.lines.proofs.make.Tie as tie
-use Rattle.lines.proofs.make.Reads as reads
-use Rattle.lines.proofs.make.Lts as lts
-use Rattle.lines.proofs.judge.Reads as judge-reads
-use Rattle.lines.proofs.put_table.Reads as put-table-reads
 
--- src/lib.rt:129:9
 judge-requires : tie.Need-judge-requires
 judge-requires c κs = search needs
 
--- src/lib.rt:130:21
 enum-known-made : tie.Need-enum-known-made
 enum-known-made c = search needs
 
--- src/lib.rt:131:9
 enum-told : tie.Need-enum-told
 enum-told c = search needs
 
--- src/lib.rt:131:9
 returns : tie.Need-returns
 returns c =
     let told = c .enum-told .given in

@@ -25,47 +25,38 @@ Inv-loop text first table₀ offset₀ place₀ at₀ table offset place at =
 abbrev μ-loop : tie.MeasureT-loop
 μ-loop text first table₀ offset₀ place₀ at₀ table offset place at = length text - at
 
--- src/lib.rt:87:5
 loop-holds : tie.Need-loop-holds Inv-loop μ-loop
 loop-holds c = let fits = c .before .before .pre in (refl, fits .0, fits .1, refl)
 
--- src/lib.rt:88:39
 cast-put-u16 : tie.Need-cast-put-u16 Inv-loop μ-loop
 cast-put-u16 c = omega arith
 
--- src/lib.rt:88:9
 put-u16-requires : tie.Need-put-u16-requires Inv-loop μ-loop
 put-u16-requires c κs =
+    let at-args = c .before .before .before .before .before .args in
     let head = c .before .before .loop in
-    let text = c .before .before .before .before .before .args .text .now in
+    let text = at-args .text .now in
     let room = offsets-some (lines (drop (head .at) text)) (head .offset) in
     omega arith
 
--- src/lib.rt:89:13
 line-end-requires : tie.Need-line-end-requires Inv-loop μ-loop
 line-end-requires c κs = omega arith
 
--- src/lib.rt:90:19
 sub-offset : tie.Need-sub-offset Inv-loop μ-loop
 sub-offset c = omega arith
 
--- src/lib.rt:90:9
 add-offset : tie.Need-add-offset Inv-loop μ-loop
 add-offset c = omega arith
 
--- src/lib.rt:91:9
 add-place : tie.Need-add-place Inv-loop μ-loop
 add-place c = omega arith
 
--- src/lib.rt:92:14
 add-at : tie.Need-add-at Inv-loop μ-loop
 add-at c = omega arith
 
--- src/lib.rt:87:5
 loop-less : tie.Need-loop-less Inv-loop μ-loop
 loop-less c = omega arith
 
--- src/lib.rt:87:5
 loop-again : tie.Need-loop-again Inv-loop μ-loop
 loop-again c =
     let put = c .before .before .before in
@@ -76,34 +67,30 @@ loop-again c =
     let on = offsets-turn text (head .at) end (inside .loop-test .taken) (c .line-end .ensures .0) (head .offset) in
     let bytes = bytes-turn text (head .at) end (inside .loop-test .taken) (c .line-end .ensures .0) in
     let longer = ap length on in
-    let rest = offsets (head .offset + (end - head .at)) (lines (drop (end + 1) text)) in
-    (
+    let rest = offsets (head .offset + (end - head .at)) (lines (drop (end + 1) text)) in (
       put .put-u16 .kept .0 ∙ head .inv .0,
       omega arith,
       rw (put .put-u16 .kept .0) (omega arith),
       ap (λ (t : List ℕ). written t (head .place + 2) rest) (put .put-u16 .ensures)
-      ∙ written-append (head .table) (head .place) (u16Bytes (head .offset)) rest (omega arith)
-      ∙ sym (ap (written (head .table) (head .place)) on)
-      ∙ head .inv .3,
+          ∙ written-append (head .table) (head .place) (u16Bytes (head .offset)) rest (omega arith)
+          ∙ sym (ap (written (head .table) (head .place)) on)
+          ∙ head .inv .3,
     )
 
--- src/lib.rt:94:35
 cast-put-u16-2 : tie.Need-cast-put-u16-2 Inv-loop μ-loop
 cast-put-u16-2 c = omega arith
 
--- src/lib.rt:94:5
 put-u16-requires-2 : tie.Need-put-u16-requires-2 Inv-loop μ-loop
 put-u16-requires-2 c κs =
+    let at-args = c .before .before .before .before .before .args in
     let head = c .before .before .loop in
-    let text = c .before .before .before .before .before .args .text .now in
+    let text = at-args .text .now in
     let room = offsets-some (lines (drop (head .at) text)) (head .offset) in
     omega arith
 
--- src/lib.rt:80:1
 same-length : tie.Need-same-length Inv-loop μ-loop
 same-length c = let put = c .before .before in put .put-u162 .kept .0 ∙ put .before .before .before .loop .inv .0
 
--- src/lib.rt:80:1
 returns : tie.Need-returns Inv-loop μ-loop
 returns c =
     let put = c .before .before in

@@ -6,26 +6,16 @@ use Rattle.lines.specs.Lines.{lines}
 use Rattle.lines.proofs.Offsets.{offsets-length, table-written}
 use Rattle.lines.proofs.put_table.Statement.{statement}
 use Rattle.lines.proofs.put_table.Tie as tie
-use Rattle.lines.proofs.put_table.Reads as reads
-use Rattle.lines.proofs.put_table.Lts as lts
-use Rattle.layout.proofs.put_u16.Reads as put-u16-reads
-use Rattle.lines.proofs.put_messages.Reads as put-messages-reads
-use Rattle.lines.proofs.put_offsets.Reads as put-offsets-reads
-use Rattle.texts.proofs.header_width.Reads as header-width-reads
 
--- src/lib.rt:118:9
 header-width-requires : tie.Need-header-width-requires
 header-width-requires c κs = search needs
 
--- src/lib.rt:119:31
 cast-put-u16 : tie.Need-cast-put-u16
 cast-put-u16 c = search needs
 
--- src/lib.rt:119:5
 put-u16-requires : tie.Need-put-u16-requires
 put-u16-requires c κs = search needs
 
--- src/lib.rt:120:5
 put-offsets-requires : tie.Need-put-offsets-requires
 put-offsets-requires c κs =
     let put = c .before .before .before in
@@ -35,15 +25,12 @@ put-offsets-requires c κs =
     let long = offsets-length (lines text) (width .header-width .result) in
     omega (arith, width .header-width .ensures .0, put .put-u16 .kept .0, start .pre)
 
--- src/lib.rt:121:5
 put-messages-requires : tie.Need-put-messages-requires
 put-messages-requires c κs = search needs
 
--- src/lib.rt:114:1
 same-length : tie.Need-same-length
 same-length c = search needs
 
--- src/lib.rt:114:1
 returns : tie.Need-returns
 returns c =
     let last = c .before .before in

@@ -1,0 +1,79 @@
+use mathlib.Core.Path.{sym, ap, _∙_}
+use native.Mathlib.Omega.{arith}
+use borrow.Author.Needs.{needs}
+use lib.ListN.{length}
+use lib.Seq.{length-take-le}
+use Rattle.lines.proofs.Judged.{table-short, buffer-kept}
+use Rattle.table.proofs.main.Statement.{statement}
+use Rattle.table.proofs.main.Tie as tie
+
+large-buffer-requires : tie.Need-large-buffer-requires
+large-buffer-requires c κs = search needs
+
+slice-aggregate-read-full : tie.Need-slice-aggregate-read-full
+slice-aggregate-read-full c = search needs
+
+read-full-requires : tie.Need-read-full-requires
+read-full-requires c κs = search needs
+
+array-share-prefix-text : tie.Need-array-share-prefix-text
+array-share-prefix-text c = search needs
+
+slice-aggregate-make : tie.Need-slice-aggregate-make
+slice-aggregate-make c = search needs
+
+make-requires : tie.Need-make-requires
+make-requires c κs = search needs
+
+enum-known-length : tie.Need-enum-known-length
+enum-known-length c = search needs
+
+array-share-prefix-table : tie.Need-array-share-prefix-table
+array-share-prefix-table c =
+    let table = c .before in
+    let make = table .before .before .make in
+    let short = table-short _ _ _ (sym (make .ensures .0) ∙ table .length .given .1) in
+    let kept = ap length (make .ensures .1) ∙ buffer-kept _ _ (search needs) in
+    omega arith
+
+slice-aggregate-write-all : tie.Need-slice-aggregate-write-all
+slice-aggregate-write-all c =
+    let table = c .before .before in
+    let make = table .before .before .make in
+    let short = table-short _ _ _ (sym (make .ensures .0) ∙ table .length .given .1) in
+    let kept = ap length (make .ensures .1) ∙ buffer-kept _ _ (search needs) in
+    sym (length-take-le _ _ (omega arith))
+
+write-all-requires : tie.Need-write-all-requires
+write-all-requires c κs = search needs
+
+enum-known-fault : tie.Need-enum-known-fault
+enum-known-fault c = search needs
+
+tell-requires : tie.Need-tell-requires
+tell-requires c κs = search needs
+
+returns : tie.Need-returns
+returns c = search needs
+
+returns-2 : tie.Need-returns-2
+returns-2 c = search needs
+
+pub main-spec : {M : Type 1} → statement M
+main-spec =
+    tie.close
+    (tie.spec
+    large-buffer-requires
+    slice-aggregate-read-full
+    read-full-requires
+    array-share-prefix-text
+    slice-aggregate-make
+    make-requires
+    enum-known-length
+    array-share-prefix-table
+    slice-aggregate-write-all
+    write-all-requires
+    enum-known-fault
+    tell-requires
+    returns
+    returns-2)

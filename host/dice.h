@@ -1,0 +1,29 @@
+/* Dice for the tests: from one start, the same rolls on every machine. */
+#ifndef FOLDHARBOR_DICE_H
+#define FOLDHARBOR_DICE_H
+
+#include <stdbool.h>
+#include <stdint.h>
+
+struct dice {
+    uint64_t state;
+};
+
+/* A number from 0 to sides - 1. */
+static inline uint32_t dice_roll(struct dice *dice, uint32_t sides)
+{
+    uint64_t mixed = dice->state += 0x9E3779B97F4A7C15u; /* splitmix64 */
+
+    mixed = (mixed ^ mixed >> 30) * 0xBF58476D1CE4E5B9u;
+    mixed = (mixed ^ mixed >> 27) * 0x94D049BB133111EBu;
+    mixed ^= mixed >> 31;
+    return (mixed >> 32) * sides >> 32;
+}
+
+/* True once in so many rolls. */
+static inline bool dice_once_in(struct dice *dice, uint32_t sides)
+{
+    return dice_roll(dice, sides) == 0;
+}
+
+#endif
