@@ -2,7 +2,6 @@
 //   messages FIRST SECOND                    each message on a line: its number, the first table's text, the second's
 //   messages FIRST SECOND LANGUAGE NUMBER    that message alone, or `refused` and the number of the refusal
 use libc::STDERR_FILENO;
-use libc::STDOUT_FILENO;
 
 // What a word says.
 enum Said {
@@ -11,11 +10,6 @@ enum Said {
 }
 
 const MOST_NUMBER: u64 = 4294967295;
-
-const SPACES: [u8; 16] = [32; 16];
-
-// As many messages as a table can have.
-const MOST_ROWS: u32 = 64;
 
 // Reads the file that an argument names; answers its length, or -1 where it can't, which is told.
 fn load(argument: usize, table: &mut [u8]) -> isize {
@@ -79,98 +73,6 @@ fn number_at(argument: usize) -> Said {
     number_of(&word[..n])
 }
 
-fn print_refused(refusal: u8) {
-    io::write_all(STDOUT_FILENO, b"refused ");
-    io::print_decimal(STDOUT_FILENO, refusal as u64);
-    io::write_all(STDOUT_FILENO, b"\n");
-}
-
-fn print_spaces(count: usize) {
-    let mut left = count;
-    while left > 16 {
-        io::write_all(STDOUT_FILENO, &SPACES);
-        left -= 16;
-    }
-    io::write_all(STDOUT_FILENO, &SPACES[..left]);
-}
-
-// Prints one message, or its refusal.
-fn show_one<'a>(first: &'a [u8], second: &'a [u8], language: u32, number: u32) {
-    let mut refusal = 0u8;
-    let text = texts::text(first, second, language, number, &mut refusal);
-    if refusal != 0 {
-        print_refused(refusal);
-        return;
-    }
-    io::write_all(STDOUT_FILENO, text);
-    io::write_all(STDOUT_FILENO, b"\n");
-}
-
-// How many characters the longest text of the first table has.
-fn widest<'a>(first: &'a [u8], second: &'a [u8]) -> usize {
-    let mut most = 0;
-    let mut number = 0u32;
-    while number < MOST_ROWS {
-        let mut refusal = 0u8;
-        let text = texts::text(first, second, 1, number, &mut refusal);
-        let width = utf8::characters(text, 0, text.len());
-        if most < width {
-            most = width;
-        }
-        number += 1;
-    }
-    most
-}
-
-// Prints a message of both tables, the first's in so wide a column; answers whether either table has it.
-fn show_row<'a>(first: &'a [u8], second: &'a [u8], number: u32, width: usize) -> bool {
-    let mut refusal = 0u8;
-    let left = texts::text(first, second, 1, number, &mut refusal);
-    let mut other = 0u8;
-    let right = texts::text(first, second, 2, number, &mut other);
-    if (refusal != 0) & (other != 0) {
-        return false;
-    }
-    if number < 10 {
-        print_spaces(1);
-    }
-    io::print_decimal(STDOUT_FILENO, number as u64);
-    print_spaces(2);
-    io::write_all(STDOUT_FILENO, left);
-    if right.len() != 0 {
-        let used = utf8::characters(left, 0, left.len());
-        if used < width {
-            print_spaces(width - used);
-        }
-        print_spaces(2);
-        io::write_all(STDOUT_FILENO, right);
-    }
-    io::write_all(STDOUT_FILENO, b"\n");
-    true
-}
-
-// Prints every message of both tables, or the refusal of one that is bad.
-fn show_all<'a>(first: &'a [u8], second: &'a [u8]) {
-    // a good table has a message 0
-    let mut refusal = 0u8;
-    texts::text(first, second, 1, 0, &mut refusal);
-    if refusal == 0 {
-        texts::text(first, second, 2, 0, &mut refusal);
-    }
-    if refusal != 0 {
-        print_refused(refusal);
-        return;
-    }
-    let width = widest(first, second);
-    let mut number = 0u32;
-    while number < MOST_ROWS {
-        if !show_row(first, second, number, width) {
-            return;
-        }
-        number += 1;
-    }
-}
-
 fn usage() {
     io::write_all(
         STDERR_FILENO,
@@ -198,7 +100,7 @@ fn main() {
     let n = io::count(got, &first);
     let m = io::count(other, &second);
     if words == 3 {
-        show_all(&first[..n], &second[..m]);
+        listing::show_all(&first[..n], &second[..m]);
         return;
     }
     let Said::Number(language) = number_at(3) else {
@@ -209,5 +111,5 @@ fn main() {
         usage();
         return;
     };
-    show_one(&first[..n], &second[..m], language, number);
+    listing::show_one(&first[..n], &second[..m], language, number);
 }

@@ -3,8 +3,8 @@ use native.Mathlib.Omega.{arith}
 use lib.Seq.{length-take-le}
 use lib.ListN.{length}
 use borrow.Author.Needs.{needs}
-use Rattle.messages.proofs.print_spaces.Statement.{statement}
-use Rattle.messages.proofs.print_spaces.Tie as tie
+use Rattle.listing.proofs.print_spaces.Statement.{statement}
+use Rattle.listing.proofs.print_spaces.Tie as tie
 
 abbrev Inv-loop : tie.InvT-loop
 Inv-loop count left₀ t3 t4 left = 16 ≡ length t3

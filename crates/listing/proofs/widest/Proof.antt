@@ -1,8 +1,8 @@
 use Prim.Native.Nat.{_-_, _≤_}
 use lib.ListN.{length}
 use borrow.Author.Needs.{needs}
-use Rattle.messages.proofs.widest.Statement.{statement}
-use Rattle.messages.proofs.widest.Tie as tie
+use Rattle.listing.proofs.widest.Statement.{statement}
+use Rattle.listing.proofs.widest.Tie as tie
 
 abbrev Inv-loop : tie.InvT-loop
 Inv-loop first second most₀ number₀ most number = number ≤ 64

@@ -1,7 +1,7 @@
 use Prim.Native.Nat.{_-_, _≤_}
 use borrow.Author.Needs.{needs}
-use Rattle.messages.proofs.show_all.Statement.{statement}
-use Rattle.messages.proofs.show_all.Tie as tie
+use Rattle.listing.proofs.show_all.Statement.{statement}
+use Rattle.listing.proofs.show_all.Tie as tie
 
 abbrev Inv-loop : tie.InvT-loop
 Inv-loop first second refusal width number₀ number = number ≤ 64

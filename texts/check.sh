@@ -1,0 +1,79 @@
+#!/usr/bin/env bash
+# Whether the texts fit together, and whether the programs `table` and `messages`, which are built, do what they say with them and with bad ones.
+cd "$(dirname "$0")/.." || exit 1
+room=$(mktemp -d)
+trap 'rm -rf "$room"' EXIT
+# a file, since what a pipe runs can't set a variable
+miss() {
+    echo "$1"
+    touch "$room/missed"
+}
+program() { sh host/run.sh "target/bin/$@"; }
+
+# ---- the files: line for line the same messages, listed in README.md from 0 on, composed, nothing but text
+lines=$(wc -l <texts/slovak.txt)
+[ "$lines" = "$(wc -l <texts/english.txt)" ] || miss "slovak.txt and english.txt have different numbers of lines"
+[ "$lines" -le 64 ] || miss "more than 64 lines"
+listed=$(sed -n 's/^| \([0-9]*\) | .*/\1/p' texts/README.md)
+[ "$listed" = "$(seq 0 $((lines - 1)))" ] || miss "README.md does not list the messages 0 to $((lines - 1))"
+for file in texts/slovak.txt texts/english.txt; do
+    # U+0300 to U+036F, the marks that a letter is composed with
+    LC_ALL=C grep -n $'\xcc[\x80-\xbf]\|\xcd[\x80-\xaf]' "$file" && miss "$file: a letter is not composed"
+    LC_ALL=C grep -n $'[\x01-\x1f\x7f]\|^$\| $' "$file" && miss "$file: an empty line, a space at a line's end or a control character"
+    [ -z "$(tail -c 1 "$file")" ] || miss "$file: no line end after the last line"
+done
+
+# ---- every message read back from its table, to the byte
+for language in slovak english; do
+    program table <texts/$language.txt >"$room/$language" || miss "table fails on $language.txt"
+done
+for number in $(seq 0 $((lines - 1))); do
+    for language in 1:slovak 2:english; do
+        program messages "$room/slovak" "$room/english" "${language%:*}" "$number" >"$room/one"
+        sed -n "$((number + 1))p" "texts/${language#*:}.txt" | cmp -s - "$room/one" || miss "message $number of ${language#*:} is not its line"
+    done
+done
+
+# ---- refusals, and what is told of files and words: tells WANT WORDS.. whether messages prints just that
+tells() {
+    local want=$1
+    shift
+    [ "$(program messages "$@" 2>&1)" = "$want" ] || miss "messages $*: not '$want'"
+}
+head -c 100 "$room/slovak" >"$room/cut"
+for language in 0 3 4294967295; do tells "refused 17" "$room/cut" "$room/cut" $language 0; done
+tells "refused 15" "$room/cut" "$room/english" 1 4294967295
+tells "refused 15" "$room/slovak" "$room/cut" 2 0
+tells "refused 15" "$room/cut" "$room/english"
+tells "refused 15" "$room/slovak" "$room/cut"
+for number in "$lines" 4294967295; do tells "refused 16" "$room/slovak" "$room/cut" 1 "$number"; done
+usage="usage: messages FIRST SECOND [LANGUAGE NUMBER]"
+tells "$usage"
+tells "$usage" "$room/slovak" "$room/english" 1
+for number in -1 one 4294967296 1x ''; do tells "$usage" "$room/slovak" "$room/english" 1 "$number"; done
+tells "$room/none: No such file or directory" "$room/none" "$room/english"
+tells "$room: Is a directory" "$room/slovak" "$room"
+head -c 65536 /dev/zero >"$room/long"
+tells "$room/long: longer than a table can be" "$room/slovak" "$room/long"
+
+# ---- lines that make no table, on standard input: faulty LINE WHY whether it tells just that and writes nothing
+faulty() {
+    program table >"$room/out" 2>"$room/err"
+    [ -s "$room/out" ] && miss "a table in spite of: $2"
+    [ "$(cat "$room/err")" = "table: line $1: $2" ] || miss "not told: line $1: $2"
+}
+as() { head -c "$1" /dev/zero | tr '\0' a; }
+faulty 1 "there is none, and a table has at least one message" </dev/null
+seq 65 | faulty 65 "one too many, a table has at most 64 messages"
+printf 'good\nb\xc3\n' | faulty 2 "it is not UTF-8"
+printf 'good\n\nbad \xed\xa0\x80' | faulty 3 "it is not UTF-8"
+as 65530 | faulty 1 "the table would be longer than 65535 bytes"
+{ as 40000; echo; as 25528; echo; } | faulty 2 "the table would be longer than 65535 bytes"
+as 70000 | faulty 1 "the table would be longer than 65535 bytes"
+[ "$(as 65529 | program table | wc -c)" = 65535 ] || miss "a table of 65535 bytes is not made"
+[ "$(seq 64 | program table | wc -c)" = $((2 + 2 * 65 + 9 + 2 * 55)) ] || miss "a table of 64 messages is not made"
+printf 'b\xff' >"$room/bad"
+echo kept >"$room/kept"
+bash texts/table.sh "$room/bad" "$room/kept" 2>/dev/null && miss "table.sh does not end with 1"
+[ "$(cat "$room/kept")" = kept ] || miss "table.sh writes where the lines are bad"
+[ ! -e "$room/missed" ]
