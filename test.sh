@@ -27,6 +27,17 @@ same() {
     "$@" | cmp - "$want"
 }
 
+# made_of LINES TABLE: makes the table of the lines
+made_of() {
+    sh host/run.sh target/bin/table <"$1" >"$2" && [ -s "$2" ]
+}
+
+# both_languages COMMAND..: whether what the command prints names NZ4, message 3, in both languages
+both_languages() {
+    local printed
+    printed=$("$@") && [[ $printed == *"$(sed -n 4p texts/slovak.txt)"*"$(sed -n 4p texts/english.txt)"* ]]
+}
+
 close() {
     rm -f "$log"
     echo "$passed passed, $failed failed"
@@ -68,6 +79,7 @@ fi
 [ "$status" = 0 ] || [ "$failed" != 0 ] || failed=1
 check "rt fmt --check" rt fmt --check
 check "docs name what is there" bash docs/check.sh
+check "texts in both languages, table and messages" bash texts/check.sh
 
 for exercise in tests/exercises/*.ex; do
     check "show $exercise" same "${exercise%.ex}.txt" sh host/run.sh target/bin/show <"$exercise"
@@ -81,8 +93,13 @@ made=target/host
 check "cc vectors" sh host/build.sh $made/vectors host/vectors.c
 check "cc compare" sh host/build.sh $made/compare host/compare.c host/generate.c host/model.c
 check "cc bench" sh host/build.sh $made/bench host/bench.c host/generate.c host/model.c
+check "cc texts" sh host/build.sh $made/texts host/texts.c
 check "cc example" sh host/build.sh $made/example host/example.c
 check "the C call on the exercises" sh host/run.sh $made/vectors tests/exercises
 check "the C call against the model" sh host/run.sh $made/compare
-check "the example host" sh host/run.sh $made/example crates/show/stdin
+check "the text call against the model" sh host/run.sh $made/texts
+for language in slovak english; do
+    check "table texts/$language.txt" made_of texts/$language.txt $made/$language.table
+done
+check "the example host" both_languages sh host/run.sh $made/example tests/exercises/04.ex $made/slovak.table $made/english.table
 close

@@ -11,14 +11,14 @@ names=$(grep -oh '`[^`]*`' docs/RULES.md docs/CONTRACTS.md | tr -d '`' | sort -u
 for name in $names; do
     crate=${name%%/*}
     last=${name##*.}
-    if [[ $name =~ ^[a-z]+/(proofs/)?[A-Z][A-Za-z0-9]*\.[A-Za-z0-9-]+$ ]]; then
+    if [[ $name =~ ^[a-z0-9]+/(proofs/)?[A-Z][A-Za-z0-9]*\.[A-Za-z0-9?-]+$ ]]; then
         file=${name#"$crate"/}
         [[ $file == proofs/* ]] || file=specs/$file
-        grep -Eq "^ *((abbrev|unfoldable|record|data|pub) )*$last( |\$)" "crates/$crate/${file%.*}.antt" 2>/dev/null || miss "no $name"
-    elif [[ $name =~ ^([A-Za-z]+)::([a-z0-9_]+) ]]; then
+        grep -Eq "^ *((abbrev|unfoldable|record|data|pub) )*${last/\?/\\?}( |\$)" "crates/$crate/${file%.*}.antt" 2>/dev/null || miss "no $name"
+    elif [[ $name =~ ^([A-Za-z0-9]+)::([a-z0-9_]+) ]]; then
         crate=${BASH_REMATCH[1]/Desk/desk}
-        grep -q "fn ${BASH_REMATCH[2]}(" "crates/$crate"/src/*.rt 2>/dev/null || miss "no function $name"
-    elif [[ $name =~ ^[a-z]+/[a-z0-9_]+$ && -d crates/$crate ]]; then
+        grep -Eq "fn ${BASH_REMATCH[2]}(<.*>)?\(" "crates/$crate"/src/*.rt 2>/dev/null || miss "no function $name"
+    elif [[ $name =~ ^[a-z0-9]+/[a-z0-9_]+$ && -d crates/$crate ]]; then
         [ -f "crates/$crate/must-fail/${name#*/}.edit" ] || miss "no edit $name"
     fi
 done
@@ -27,7 +27,7 @@ for edit in crates/*/must-fail/*.edit; do
     name=${name/\/must-fail/}
     grep -qF "\`${name%.edit}\`" docs/CONTRACTS.md || miss "not in CONTRACTS.md: ${name%.edit}"
 done
-for page in README.md docs/*.md; do
+for page in README.md docs/*.md docs/changes/*.md texts/*.md; do
     for link in $(grep -o '](\([^)]*\))' "$page" | sed 's/^](//; s/)$//'); do
         [ -e "$(dirname "$page")/$link" ] || miss "$page: no $link"
     done

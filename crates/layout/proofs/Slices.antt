@@ -3,7 +3,7 @@
 use Prim.Native.Nat.{ℕ, zero, suc, _-_, _≤_, _<_, min}
 use native.Mathlib.Nat.{sub-zero}
 use native.Mathlib.Omega.{arith}
-use mathlib.Core.Path.{_≡_, refl, sym, ap, _∙_}
+use mathlib.Core.Path.{_≡_, sym, ap, _∙_}
 use mathlib.Core.Logic.{⊎-elim}
 use mathlib.Core.List.{List, [], _∷_}
 use lib.ListN.{length, take, drop, length-take, drop-of-length-le}
@@ -26,7 +26,8 @@ up-to-end bytes from to = ap (drop from) (take-end bytes to)
     take-end bytes to =
         ⊎-elim
         (λ (h : to ≤ length bytes). let e : min to (length bytes) ≡ to = omega arith in rw e)
-        (λ (h : length bytes < to). let e : min to (length bytes) ≡ length bytes = omega arith in rw e (take-length bytes ∙ sym (take-all to bytes (omega arith))))
+        (λ (h : length bytes < to).
+        let e : min to (length bytes) ≡ length bytes = omega arith in rw e (take-length bytes ∙ sym (take-all to bytes (omega arith))))
         (le-or-lt to (length bytes))
 
 pub none-left : (bytes : List ℕ) (at to : ℕ) → to ≤ at → slice at to bytes ≡ []

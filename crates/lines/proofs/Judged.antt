@@ -1,11 +1,10 @@
 -- What is made of a text, line by line: the turn of the loop that judges it, and what a table that comes of it has.
 -- By the three tests of a line, then by induction on the lines.
-use Prim.Native.Nat.{ℕ, zero, suc, _+_, _*_, _-_, _≤_, _<_}
-use native.Mathlib.Numerals.{add-one}
+use Prim.Native.Nat.{ℕ, zero, suc, _+_, _-_, _≤_, _<_}
 use native.Mathlib.Omega.{arith}
-use mathlib.Core.Path.{_≡_, refl, sym, ap, ap₂, _∙_}
+use mathlib.Core.Path.{_≡_, refl, ap, _∙_}
 use mathlib.Core.Bool.{Bool, true, false, not, cond, decide, decide-iff}
-use mathlib.Core.List.{List, [], _∷_, _++_, flatten}
+use mathlib.Core.List.{List, [], _∷_, flatten}
 use lib.Dec.{ltb}
 use lib.ListN.{length, getD, drop, length-append}
 use lib.Seq.{slice}
@@ -47,7 +46,8 @@ module _ (text : List ℕ) (at end count bytes : ℕ) (some : at < length text) 
       let n : length (firstLine (drop at text)) ≡ end - at = omega arith in
       rw (lines-at text at some end ends, n, line-slice text at end ends)
 
-pub ended : (text : List ℕ) (at count bytes : ℕ) → length text ≤ at → madeAfter count bytes (lines (drop at text)) ≡ Table count (headerWidth count + bytes)
+pub ended : (text : List ℕ) (at count bytes : ℕ) → length text ≤ at
+    → madeAfter count bytes (lines (drop at text)) ≡ Table count (headerWidth count + bytes)
 unfolding madeAfter
 ended text at count bytes h = rw (lines-past text at h)
 
@@ -126,7 +126,8 @@ unfolding bytesOf
 bytes-bad messages fault line e = rw e
 
 -- what is written fits, so that the buffer keeps its length
-pub buffer-kept : (messages : List (List ℕ)) (l : List ℕ) → length l ≡ tableMost → length (written l 0 (bytesOf (madeOf messages) messages)) ≡ tableMost
+pub buffer-kept : (messages : List (List ℕ)) (l : List ℕ) → length l ≡ tableMost
+    → length (written l 0 (bytesOf (madeOf messages) messages)) ≡ tableMost
 unfolding bytesOf
 buffer-kept messages l h = go (madeOf messages) refl
   where

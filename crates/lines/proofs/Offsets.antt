@@ -35,16 +35,18 @@ unfolding offsets
 offsets-length [] at = refl
 offsets-length (message ∷ messages) at = let rest = offsets-length messages (at + length message) in omega arith
 
-module _ (messages : List (List ℕ)) (count header : ℕ) (l l₁ l₂ l₃ : List ℕ) (room : Room messages count (length l)) (wide : header ≡ headerWidth count) where
-  pub table-written : l₁ ≡ written l 0 (u16Bytes count) → l₂ ≡ written l₁ 2 (offsets header messages) → l₃ ≡ written l₂ header (flatten messages)
+module _ (messages : List (List ℕ)) (count header : ℕ) (l l₁ l₂ l₃ : List ℕ) where
+  pub table-written : Room messages count (length l) → header ≡ headerWidth count
+      → l₁ ≡ written l 0 (u16Bytes count) → l₂ ≡ written l₁ 2 (offsets header messages) → l₃ ≡ written l₂ header (flatten messages)
       → l₃ ≡ written l 0 (tableOf messages)
   unfolding tableOf
-  table-written e₁ e₂ e₃ =
+  table-written room wide e₁ e₂ e₃ =
       let offs : List ℕ = offsets header messages in
       let long : length offs ≡ 2 * (length messages + 1) = offsets-length messages header in
       let head : List ℕ = u16Bytes count ++ offs in
       let ends : header ≡ 0 + length head = omega (arith, room .counts) in
-      let front : l₂ ≡ written l 0 head = e₂ ∙ ap (λ (x : List ℕ). written x 2 offs) e₁ ∙ written-append l 0 (u16Bytes count) offs (omega (arith, room .counts, room .fits)) in
+      let fits = written-append l 0 (u16Bytes count) offs (omega (arith, room .counts, room .fits)) in
+      let front : l₂ ≡ written l 0 head = e₂ ∙ ap (λ (x : List ℕ). written x 2 offs) e₁ ∙ fits in
       e₃
       ∙ ap₂ (λ (x : List ℕ) (k : ℕ). written x k (flatten messages)) front ends
       ∙ written-append l 0 head (flatten messages) (omega (arith, room .counts, room .fits))

@@ -1,19 +1,17 @@
 -- The table of a list of messages, read as a table of texts: its count, its offsets, each message to the byte. So it is good.
 -- By the bytes before each message, by induction on the messages.
-use Prim.Native.Nat.{ℕ, zero, suc, _+_, _*_, _-_, _/_, _%_, _≤_, _<_}
+use Prim.Native.Nat.{ℕ, zero, suc, _+_, _*_, _≤_, _<_}
 use native.Mathlib.Nat.{add-zero}
 use native.Mathlib.Numerals.{add-one}
 use native.Mathlib.Omega.{arith}
 use mathlib.Core.Path.{_≡_, refl, sym, ap, ap₂, _∙_}
-use mathlib.Core.Bool.{true}
 use mathlib.Core.List.{List, [], _∷_, _++_, flatten}
 use lib.ListN.{length, getD, take, drop, length-append}
 use lib.Seq.{slice, take-append-add, drop-append-add, take-append-seam}
 use Rattle.layout.specs.Layout.{u16At, u16Bytes}
 use Rattle.layout.proofs.U16.{u16At-bytes}
-use Rattle.utf8.specs.Utf8.{Utf8}
-use Rattle.texts.specs.Table.{mostMessages, tableMost, headerWidth, count, offset, message, tableGood}
-use Rattle.texts.proofs.Tables.{Message, Good, good-table}
+use Rattle.texts.specs.Table.{headerWidth, count, offset, message}
+use Rattle.texts.proofs.Tables.{Good, good-table}
 use Rattle.lines.specs.Table.{offsets, tableOf}
 use Rattle.lines.specs.Making.{Fitting, Holds}
 use Rattle.lines.proofs.Offsets.{offsets-length}
@@ -63,7 +61,8 @@ offsets-at (m ∷ messages) at rest (suc i) l h =
     ap (u16At (offsets at (m ∷ messages) ++ rest)) e ∙ u16At-on _ _ (offsets (at + length m) messages ++ rest) (2 * i) ∙ rec ∙ omega arith
 
 -- ---- the messages
-part-at : (messages : List (List ℕ)) (i : ℕ) → i < length messages → slice (before i messages) (before (suc i) messages) (flatten messages) ≡ getD messages i []
+part-at : (messages : List (List ℕ)) (i : ℕ) → i < length messages
+    → slice (before i messages) (before (suc i) messages) (flatten messages) ≡ getD messages i []
 unfolding before flatten
 part-at [] i l = absurd (omega arith)
 part-at (m ∷ messages) zero l = ap (λ (k : ℕ). take k (m ++ flatten messages)) (add-zero (length m)) ∙ take-append-seam m (flatten messages)

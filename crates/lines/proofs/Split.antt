@@ -1,11 +1,11 @@
 -- A text by its lines: the first line and those behind its end are all; and byte by byte, for the loops that go over it.
 -- By induction on the text, and by the byte that stands at a place.
-use Prim.Native.Nat.{ℕ, zero, suc, _+_, _-_, _≤_, _<_}
+use Prim.Native.Nat.{ℕ, suc, _+_, _-_, _≤_, _<_}
 use native.Mathlib.Numerals.{add-one}
 use native.Mathlib.Omega.{arith}
-use mathlib.Core.Path.{_≡_, refl, sym, ap, ap₂, _∙_}
+use mathlib.Core.Path.{_≡_, refl, sym, ap, _∙_}
 use mathlib.Core.Bool.{Bool, true, false, cond}
-use mathlib.Core.List.{List, [], _∷_, _++_, flatten}
+use mathlib.Core.List.{List, [], _∷_, flatten}
 use lib.Dec.{eqb}
 use lib.ListN.{length, getD, take, drop, length-drop, drop-of-length-le}
 use lib.Seq.{slice, drop-cons, drop-drop}
@@ -55,7 +55,8 @@ unfolding firstLine
 line-front [] = refl
 line-front (byte ∷ text) = go (eqb byte lineEnd) (line-front text)
   where
-    go : (b : Bool) → firstLine text ≡ take (length (firstLine text)) text → cond b [] (byte ∷ firstLine text) ≡ take (length (cond b [] (byte ∷ firstLine text))) (byte ∷ text)
+    go : (b : Bool) → firstLine text ≡ take (length (firstLine text)) text
+        → cond b [] (byte ∷ firstLine text) ≡ take (length (cond b [] (byte ∷ firstLine text))) (byte ∷ text)
     go true e = refl
     go false e = ap (λ (x : List ℕ). byte ∷ x) e
 
@@ -82,7 +83,8 @@ module _ (text : List ℕ) (at : ℕ) where
     lines-at end e =
         let long : 0 < length (drop at text) = rw length-drop (omega arith) in
         let n : end + 1 ≡ at + suc (length line) = omega arith in
-        lines-some (drop at text) long ∙ ap (λ (x : List ℕ). line ∷ lines x) (drop-drop (suc (length line)) at text ∙ ap (λ (k : ℕ). drop k text) (sym n))
+        lines-some (drop at text) long
+        ∙ ap (λ (x : List ℕ). line ∷ lines x) (drop-drop (suc (length line)) at text ∙ ap (λ (k : ℕ). drop k text) (sym n))
 
     abbrev byte : ℕ
     byte = getD text at 0

@@ -2,17 +2,17 @@
 -- By the refusals, one after the other.
 use Prim.Native.Nat.{ℕ, _+_, _≤_, _<_}
 use native.Mathlib.Omega.{arith}
-use mathlib.Core.Path.{_≡_, refl, sym, ap, _∙_}
+use mathlib.Core.Path.{_≡_, refl}
 use mathlib.Core.Bool.{Bool, true, false, not, cond}
 use mathlib.Core.List.{List, []}
 use lib.Dec.{eqb, ltb}
 use lib.ListN.{length}
-use lib.Seq.{slice, slice-empty}
-use borrow.Author.Tests.{eqb-true, ltb-true, ne-eqb}
+use lib.Seq.{slice}
+use borrow.Author.Tests.{eqb-true, ltb-true}
 use Rattle.refusal.specs.Refusal.{badTable, noSuchMessage, firstRefusal}
 use Rattle.refusal.proofs.First.{both-zero}
-use Rattle.texts.specs.Table.{count, offset, message, tableGood}
-use Rattle.texts.specs.Text.{languageRefusal, tableRefusal, placeIn, textPlace, textPart}
+use Rattle.texts.specs.Table.{count, message, tableGood}
+use Rattle.texts.specs.Text.{languageRefusal, tableRefusal, placeIn}
 use Rattle.texts.specs.declared.Place.{Place}
 use Rattle.texts.proofs.Tables.{Good, table-good, offset-most}
 
@@ -24,7 +24,8 @@ pub told : (table : List ℕ) (number : ℕ) → tableRefusal table number ≡ 0
 unfolding tableRefusal
 told table number e = go (tableGood table) (ltb number (count table)) refl refl e
   where
-    go : (g l : Bool) → tableGood table ≡ g → ltb number (count table) ≡ l → _≡_ {A = ℕ} (cond (not g) badTable (cond l 0 noSuchMessage)) 0 → Told table number
+    go : (g l : Bool) → tableGood table ≡ g → ltb number (count table) ≡ l
+        → _≡_ {A = ℕ} (cond (not g) badTable (cond l 0 noSuchMessage)) 0 → Told table number
     go true true g l e = record { good = table-good table g; there = ltb-true _ _ l }
     go true false g l e = absurd (omega arith)
     go false l g e z = absurd (omega arith)
@@ -56,6 +57,7 @@ refused-empty table language number n = go (eqb refusal 0) refl n
     refusal : ℕ
     refusal = firstRefusal (languageRefusal language) (tableRefusal table number)
 
-    go : (z : Bool) → eqb refusal 0 ≡ z → (placeIn table language number .refusal ≡ 0 → ⊥) → slice (placeIn table language number .start) (placeIn table language number .end) table ≡ []
+    go : (z : Bool) → eqb refusal 0 ≡ z → (placeIn table language number .refusal ≡ 0 → ⊥)
+        → slice (placeIn table language number .start) (placeIn table language number .end) table ≡ []
     go true e n = absurd (n (rw e))
     go false e n = rw e

@@ -1,17 +1,16 @@
 -- What a good table has: its header as facts, offsets that rise from the header's end to the table's, and messages that are UTF-8.
 -- By the tests, one after the other; the offsets by induction on the messages between them.
-use Prim.Native.Nat.{ℕ, zero, suc, _+_, _*_, _≤_, _<_}
+use Prim.Native.Nat.{ℕ, zero, suc, _+_, _≤_, _<_}
 use native.Mathlib.Nat.{eq-or-lt-of-le}
 use native.Mathlib.Numerals.{add-one}
 use native.Mathlib.Omega.{arith}
-use mathlib.Core.Path.{_≡_, refl, sym, ap, _∙_}
+use mathlib.Core.Path.{_≡_}
 use mathlib.Core.Logic.{_↔_, ⊎-elim}
-use mathlib.Core.Bool.{Bool, true, _&&_, decide, decide-iff}
+use mathlib.Core.Bool.{true, decide-iff}
 use mathlib.Core.List.{List}
-use lib.Dec.{leb, eqb}
+use lib.Dec.{eqb}
 use lib.ListN.{length}
 use borrow.Author.Tests.{eqb-true, eq-eqb}
-use Rattle.numbers.specs.All.{allBelow}
 use Rattle.numbers.proofs.Tests.{and-iff, leb-iff}
 use Rattle.numbers.proofs.All.{all-each, each-all}
 use Rattle.utf8.specs.Utf8.{Utf8}

@@ -1,17 +1,16 @@
 -- Table 3-6 by the size of the value, and table 3-7 against it: what a row lists is the encoding of a scalar value, and each encoding stands in a row.
 -- By the arithmetic of six bits a byte.
-use Prim.Native.Nat.{ℕ, _+_, _*_, _-_, _/_, _%_, _≤_, _<_}
+use Prim.Native.Nat.{ℕ, zero, suc, _+_, _*_, _-_, _/_, _≤_, _<_}
 use native.Mathlib.Omega.{arith}
-use mathlib.Core.Path.{_≡_, refl, sym, ap, ap₂, _∙_}
-use mathlib.Core.Logic.{_⊎_, inl, inr, ⊎-elim, _↔_, Iff·rfl}
-use mathlib.Core.Bool.{Bool, true, false, cond, _&&_, _||_, or-true}
-use mathlib.Core.List.{List, [], _∷_, _++_}
-use lib.Dec.{leb}
-use lib.ListN.{length, getD}
+use mathlib.Core.Path.{_≡_, ap₂}
+use mathlib.Core.Logic.{inl, inr, ⊎-elim, _↔_, Iff·rfl}
+use mathlib.Core.Bool.{Bool, true, false, _&&_, _||_, or-true, or-false, or-assoc, false≢true}
+use mathlib.Core.List.{List, [], _∷_}
+use lib.ListN.{getD}
 use borrow.Author.Tests.{le-leb, lt-leb}
 use Rattle.numbers.proofs.Tests.{and-iff, or-iff, leb-iff, le-or-lt}
 use Rattle.utf8.specs.Utf8.{Scalar, following, encoding}
-use Rattle.utf8.specs.Rows.{follows, row, one, two, three, four}
+use Rattle.utf8.specs.Rows.{follows, row, anyOf, one, two, three, four}
 
 -- ---- a value by the row of table 3-6 that encodes it
 pub data Sized (v : ℕ) : Type 0 where
@@ -59,48 +58,30 @@ is-row : {first last low high a b : ℕ} → Row first last low high a b → row
 unfolding row
 is-row h = simp (and-iff, leb-iff) (((h .from, h .to), h .least), h .most)
 
--- the rows of three bytes
-abbrev Three : ℕ → ℕ → Type 0
-Three a b = Row 0xE0 0xE0 0xA0 0xBF a b ⊎ (Row 0xE1 0xEC 0x80 0xBF a b ⊎ (Row 0xED 0xED 0x80 0x9F a b ⊎ Row 0xEE 0xEF 0x80 0xBF a b))
+-- one of several rows is given by its place, and gives what each of them gives
+any-at : (rows : List Bool) (k : ℕ) → getD rows k false ≡ true → anyOf rows ≡ true
+unfolding anyOf
+any-at [] k e = e
+any-at (r ∷ rows) zero e = rw e
+any-at (r ∷ rows) (suc k) e = rw (any-at rows k e) (or-true r)
 
-threes : ℕ → ℕ → Bool
-threes a b = row 0xE0 0xE0 0xA0 0xBF a b || row 0xE1 0xEC 0x80 0xBF a b || row 0xED 0xED 0x80 0x9F a b || row 0xEE 0xEF 0x80 0xBF a b
+-- as the code writes it
+pub any-of-three : (r s t : Bool) → (r || s || t) ≡ anyOf (r ∷ s ∷ t ∷ [])
+unfolding anyOf
+any-of-three r s t = simp (or-assoc, or-false)
 
-threes-is : (a b : ℕ) → threes a b ≡ true → Three a b
-unfolding threes
-threes-is a b e =
-    ⊎-elim
-    (λ x. ⊎-elim (λ y. ⊎-elim (λ z. inl (row-is z)) (λ z. inr (inl (row-is z))) (or-iff _ _ .0 y)) (λ y. inr (inr (inl (row-is y)))) (or-iff _ _ .0 x))
-    (λ x. inr (inr (inr (row-is x))))
-    (or-iff _ _ .0 e)
+pub any-of-four : (r s t u : Bool) → (r || s || t || u) ≡ anyOf (r ∷ s ∷ t ∷ u ∷ [])
+unfolding anyOf
+any-of-four r s t u = simp (or-assoc, or-false)
 
-is-threes : (a b : ℕ) → Three a b → threes a b ≡ true
-unfolding threes
-is-threes a b (inl x) = rw (is-row x)
-is-threes a b (inr (inl x)) = rw (is-row x, or-true)
-is-threes a b (inr (inr (inl x))) = rw (is-row x, or-true)
-is-threes a b (inr (inr (inr x))) = rw (is-row x, or-true)
+abbrev Each : Type 0 → List Bool → Type 0
+Each P [] = Unit {0}
+Each P (r ∷ rows) = (r ≡ true → P) × Each P rows
 
--- the rows of four bytes
-abbrev Four : ℕ → ℕ → Type 0
-Four a b = Row 0xF0 0xF0 0x90 0xBF a b ⊎ (Row 0xF1 0xF3 0x80 0xBF a b ⊎ Row 0xF4 0xF4 0x80 0x8F a b)
-
-fours : ℕ → ℕ → Bool
-fours a b = row 0xF0 0xF0 0x90 0xBF a b || row 0xF1 0xF3 0x80 0xBF a b || row 0xF4 0xF4 0x80 0x8F a b
-
-fours-is : (a b : ℕ) → fours a b ≡ true → Four a b
-unfolding fours
-fours-is a b e =
-    ⊎-elim
-    (λ x. ⊎-elim (λ y. inl (row-is y)) (λ y. inr (inl (row-is y))) (or-iff _ _ .0 x))
-    (λ x. inr (inr (row-is x)))
-    (or-iff _ _ .0 e)
-
-is-fours : (a b : ℕ) → Four a b → fours a b ≡ true
-unfolding fours
-is-fours a b (inl x) = rw (is-row x)
-is-fours a b (inr (inl x)) = rw (is-row x, or-true)
-is-fours a b (inr (inr x)) = rw (is-row x, or-true)
+any-gives : {P : Type 0} (rows : List Bool) → Each P rows → anyOf rows ≡ true → P
+unfolding anyOf
+any-gives [] h e = absurd (false≢true e)
+any-gives (r ∷ rows) h e = ⊎-elim (h .0) (any-gives rows (h .1)) (or-iff r (anyOf rows) .0 e)
 
 -- ---- each encoding stands in a row
 pub in-row-one : (v : ℕ) → v ≤ 0x7F → one v ≡ true
@@ -112,36 +93,35 @@ unfolding two
 in-row-two v l h = is-row (omega arith)
 
 pub in-row-three : (v : ℕ) → Scalar v → 0x7FF < v → v ≤ 0xFFFF → three (0xE0 + v / 4096) (following (v / 64)) (following v) ≡ true
-unfolding three threes
+unfolding three
 in-row-three v s l h =
-    and-iff (threes (0xE0 + v / 4096) (following (v / 64))) (follows (following v)) .1 (
-      is-threes _ _ (⊎-elim low (λ (k : (0xE000 ≤ v) × (v ≤ 0x10FFFF)). inr (inr (inr (omega arith)))) s),
+    and-iff (anyOf _) (follows (following v)) .1 (
+      ⊎-elim
+          (λ (low : v ≤ 0xD7FF).
+          ⊎-elim
+          (λ (a : v ≤ 0xFFF). any-at _ 0 (is-row (omega arith)))
+          (λ (a : 0xFFF < v).
+          ⊎-elim (λ (b : v ≤ 0xCFFF). any-at _ 1 (is-row (omega arith))) (λ (b : 0xCFFF < v). any-at _ 2 (is-row (omega arith))) (le-or-lt v 0xCFFF))
+          (le-or-lt v 0xFFF))
+          (λ (high : (0xE000 ≤ v) × (v ≤ 0x10FFFF)). any-at _ 3 (is-row (omega arith)))
+          s,
       follows-iff _ .1 (omega arith),
     )
-  where
-    low : v ≤ 0xD7FF → Three (0xE0 + v / 4096) (following (v / 64))
-    low k =
-        ⊎-elim
-        (λ (a : v ≤ 0xFFF). inl (omega arith))
-        (λ (a : 0xFFF < v).
-        inr (⊎-elim (λ (b : v ≤ 0xCFFF). inl (omega arith)) (λ (b : 0xCFFF < v). inr (inl (omega arith))) (le-or-lt v 0xCFFF)))
-        (le-or-lt v 0xFFF)
 
 pub in-row-four : (v : ℕ) → v ≤ 0x10FFFF → 0xFFFF < v → four (0xF0 + v / 262144) (following (v / 4096)) (following (v / 64)) (following v) ≡ true
-unfolding four fours
+unfolding four
 in-row-four v h l =
-    and-iff (fours (0xF0 + v / 262144) (following (v / 4096)) && follows (following (v / 64))) (follows (following v)) .1 (
-      and-iff _ _ .1 (is-fours _ _ rows, follows-iff _ .1 (omega arith)),
+    and-iff (anyOf _ && follows (following (v / 64))) (follows (following v)) .1 (
+      and-iff (anyOf _) (follows (following (v / 64))) .1 (
+        ⊎-elim
+            (λ (a : v ≤ 0x3FFFF). any-at _ 0 (is-row (omega arith)))
+            (λ (a : 0x3FFFF < v).
+            ⊎-elim (λ (b : v ≤ 0xFFFFF). any-at _ 1 (is-row (omega arith))) (λ (b : 0xFFFFF < v). any-at _ 2 (is-row (omega arith))) (le-or-lt v 0xFFFFF))
+            (le-or-lt v 0x3FFFF),
+        follows-iff _ .1 (omega arith),
+      ),
       follows-iff _ .1 (omega arith),
     )
-  where
-    rows : Four (0xF0 + v / 262144) (following (v / 4096))
-    rows =
-        ⊎-elim
-        (λ (a : v ≤ 0x3FFFF). inl (omega arith))
-        (λ (a : 0x3FFFF < v).
-        inr (⊎-elim (λ (b : v ≤ 0xFFFFF). inl (omega arith)) (λ (b : 0xFFFFF < v). inr (omega arith)) (le-or-lt v 0xFFFFF)))
-        (le-or-lt v 0x3FFFF)
 
 -- ---- what a row lists is an encoding
 pub record Encodes (bytes : List ℕ) : Type 0 where
@@ -181,15 +161,22 @@ module _ (a b c : ℕ) where
       rw (lt-leb value-three 0x7F (omega arith), lt-leb value-three 0x7FF (omega arith), le-leb value-three 0xFFFF (omega arith))
       (ap₂ (λ (x : ℕ) (y : List ℕ). x ∷ y) (omega arith) (ap₂ (λ (x y : ℕ). x ∷ y ∷ []) (omega arith) (omega arith)))
 
-  by-three : Three a b → (0x80 ≤ c) × (c ≤ 0xBF) → Scalar value-three × OfThree
-  by-three (inl r) k = (inl (omega arith), omega arith)
-  by-three (inr (inl r)) k = (inl (omega arith), omega arith)
-  by-three (inr (inr (inl r))) k = (inl (omega arith), omega arith)
-  by-three (inr (inr (inr r))) k = (inr (omega arith), omega arith)
-
   pub three-bytes : three a b c ≡ true → Scalar value-three × OfThree
-  unfolding three threes
-  three-bytes e = let h = and-iff (threes a b) (follows c) .0 e in by-three (threes-is a b (h .0)) (follows-iff c .0 (h .1))
+  unfolding three
+  three-bytes e =
+      let h = and-iff (anyOf _) (follows c) .0 e in
+      let k = follows-iff c .0 (h .1) in
+      any-gives _ (
+        λ x. let r = row-is x in (inl (omega arith), omega arith),
+        (
+          λ x. let r = row-is x in (inl (omega arith), omega arith),
+          (
+            λ x. let r = row-is x in (inl (omega arith), omega arith),
+            (λ x. let r = row-is x in (inr (omega arith), omega arith), tt),
+          ),
+        ),
+      )
+      (h .0)
 
   pub three-encodes : three a b c ≡ true → Encodes (a ∷ b ∷ c ∷ [])
   three-encodes e = let k = three-bytes e in record { value = value-three; scalar = k .0; encoded = of-three (k .1) }
@@ -213,17 +200,14 @@ module _ (a b c d : ℕ) where
       (ap₂ (λ (x : ℕ) (y : List ℕ). x ∷ y) (omega arith)
       (ap₂ (λ (x : ℕ) (y : List ℕ). x ∷ y) (omega arith) (ap₂ (λ (x y : ℕ). x ∷ y ∷ []) (omega arith) (omega arith))))
 
-  by-four : Four a b → (0x80 ≤ c) × (c ≤ 0xBF) → (0x80 ≤ d) × (d ≤ 0xBF) → OfFour
-  by-four (inl r) k l = omega arith
-  by-four (inr (inl r)) k l = omega arith
-  by-four (inr (inr r)) k l = omega arith
-
   pub four-bytes : four a b c d ≡ true → OfFour
-  unfolding four fours
+  unfolding four
   four-bytes e =
-      let h = and-iff (fours a b && follows c) (follows d) .0 e in
-      let i = and-iff (fours a b) (follows c) .0 (h .0) in
-      by-four (fours-is a b (i .0)) (follows-iff c .0 (i .1)) (follows-iff d .0 (h .1))
+      let h = and-iff (anyOf _ && follows c) (follows d) .0 e in
+      let i = and-iff (anyOf _) (follows c) .0 (h .0) in
+      let k = follows-iff c .0 (i .1) in
+      let l = follows-iff d .0 (h .1) in
+      any-gives _ (λ x. let r = row-is x in omega arith, (λ x. let r = row-is x in omega arith, (λ x. let r = row-is x in omega arith, tt))) (i .0)
 
   pub four-encodes : four a b c d ≡ true → Encodes (a ∷ b ∷ c ∷ d ∷ [])
   four-encodes e = let k = four-bytes e in record { value = value-four; scalar = inr (omega arith); encoded = of-four k }

@@ -1,6 +1,6 @@
 -- The bytes say which scalar values they are: the value is read back from its encoding, so that encodings, end to end, come apart in one way.
 -- By the size of the value, then by induction on the values.
-use Prim.Native.Nat.{ℕ, suc, _+_, _*_, _-_, _/_, _%_, _≤_, _<_}
+use Prim.Native.Nat.{ℕ, _+_, _*_, _-_, _/_, _≤_, _<_}
 use native.Mathlib.Omega.{arith}
 use mathlib.Core.Path.{_≡_, refl, sym, ap, ap₂, _∙_}
 use mathlib.Core.Bool.{cond}
@@ -8,7 +8,7 @@ use mathlib.Core.List.{List, [], _∷_, _++_, flatMap, append-cancel-left}
 use lib.Dec.{leb}
 use lib.ListN.{length, getD, length-append}
 use borrow.Author.Tests.{le-leb, lt-leb}
-use Rattle.utf8.specs.Utf8.{Scalar, Scalars, following, encoding, ReadOneWay}
+use Rattle.utf8.specs.Utf8.{Scalar, Scalars, encoding, ReadOneWay}
 use Rattle.utf8.proofs.Encoding.{Sized, in-one, in-two, in-three, in-four, sized, scalar-most}
 use Rattle.utf8.proofs.Width.{width-some}
 
@@ -32,11 +32,13 @@ first-encoding v rest s = go (sized v)
     go (in-one h e) = rw (e, le-leb _ _ h)
     go (in-two l h e) = rw (e, lt-leb (0xC0 + v / 64) 0x7F (omega arith), le-leb (0xC0 + v / 64) 0xDF (omega arith)) (omega arith)
     go (in-three l h e) =
-        rw (e, lt-leb (0xE0 + v / 4096) 0x7F (omega arith), lt-leb (0xE0 + v / 4096) 0xDF (omega arith), le-leb (0xE0 + v / 4096) 0xEF (omega arith)) (omega arith)
+        let a : ℕ = 0xE0 + v / 4096 in
+        rw (e, lt-leb a 0x7F (omega arith), lt-leb a 0xDF (omega arith), le-leb a 0xEF (omega arith)) (omega arith)
     go (in-four l e) =
         let y : v / 4096 ≡ v / 64 / 64 = omega arith in
         let z : v / 262144 ≡ v / 64 / 64 / 64 = omega arith in
-        rw (e, lt-leb (0xF0 + v / 262144) 0x7F (omega arith), lt-leb (0xF0 + v / 262144) 0xDF (omega arith), lt-leb (0xF0 + v / 262144) 0xEF (omega arith)) (omega arith)
+        let a : ℕ = 0xF0 + v / 262144 in
+        rw (e, lt-leb a 0x7F (omega arith), lt-leb a 0xDF (omega arith), lt-leb a 0xEF (omega arith)) (omega arith)
 
 encoding-apart : (v w : ℕ) (rest other : List ℕ) → Scalar v → Scalar w → encoding v ++ rest ≡ encoding w ++ other → v ≡ w
 encoding-apart v w rest other s t e =

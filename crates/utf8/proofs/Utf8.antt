@@ -84,7 +84,8 @@ module _ (bytes : List ℕ) (at to : ℕ) (fits : to ≤ length bytes) (some : a
 
   pub utf8-on : (w : ℕ) → w ≡ width (slice at to bytes) → (w ≡ 0 → ⊥) → Utf8 (slice at to bytes) ↔ Utf8 (slice (at + w) to bytes)
   utf8-on w e n =
-      let behind : drop (width (slice at to bytes)) (slice at to bytes) ≡ slice (at + w) to bytes = ap (λ (k : ℕ). drop k (slice at to bytes)) (sym e) ∙ drop-drop w at (take to bytes) in (
+      let behind : drop (width (slice at to bytes)) (slice at to bytes) ≡ slice (at + w) to bytes =
+      ap (λ (k : ℕ). drop k (slice at to bytes)) (sym e) ∙ drop-drop w at (take to bytes) in (
         λ u. rw behind at (utf8-stepped (slice at to bytes) long u .rest),
         λ u. stepped-utf8 (slice at to bytes) (record { some = λ z. n (e ∙ z); rest = rw behind u }),
       )

@@ -1,18 +1,18 @@
 -- The width that the rows of table 3-7 give: that of the encoding with which the bytes begin, and 0 where they begin with none.
 -- By the size of the value, and by the row that the bytes stand in.
-use Prim.Native.Nat.{ℕ, suc, _+_, _*_, _-_, _/_, _%_, _≤_, _<_}
+use Prim.Native.Nat.{ℕ, suc, _+_, _/_, _≤_, _<_}
 use native.Mathlib.Omega.{arith}
-use mathlib.Core.Path.{_≡_, refl, sym, ap, _∙_}
-use mathlib.Core.Logic.{_⊎_, inl, inr, ⊎-elim}
-use mathlib.Core.Bool.{Bool, true, false, cond, _&&_, _||_, and-false, false≢true}
-use mathlib.Core.List.{List, [], _∷_, _++_}
+use mathlib.Core.Path.{_≡_, refl, ap, _∙_}
+use mathlib.Core.Logic.{⊎-elim}
+use mathlib.Core.Bool.{Bool, true, false, cond}
+use mathlib.Core.List.{List, _∷_, _++_}
 use lib.ListN.{length, getD, drop, List·getD-eq-default}
-use lib.Seq.{drop-cons, drop-at}
+use lib.Seq.{drop-cons}
 use borrow.Author.Tests.{lt-leb, leb-true}
-use Rattle.numbers.proofs.Tests.{and-iff, le-or-lt}
+use Rattle.numbers.proofs.Tests.{le-or-lt}
 use Rattle.numbers.proofs.Choice.{most-iff}
 use Rattle.utf8.specs.Utf8.{Scalar, following, encoding}
-use Rattle.utf8.specs.Rows.{follows, row, one, two, three, four, width}
+use Rattle.utf8.specs.Rows.{row, one, two, three, four, width}
 use Rattle.utf8.proofs.Encoding.{
   Sized,
   in-one,
@@ -40,17 +40,16 @@ one-not : (a : ℕ) → 0x7F < a → one a ≡ false
 unfolding one
 one-not a h = lt-leb _ _ h
 
-row-not : (first last low high a b : ℕ) → last < a → row first last low high a b ≡ false
-unfolding row
-row-not first last low high a b h = rw (lt-leb a last h, and-false)
+no : (b : Bool) → (b ≡ true → ⊥) → b ≡ false
+no true h = absurd (h refl)
+no false h = refl
 
 two-not : (a b : ℕ) → 0xDF < a → two a b ≡ false
 unfolding two
-two-not a b h = row-not _ _ _ _ a b h
+two-not a b h = no _ (λ e. let k = row-is e in omega arith)
 
 three-not : (a b c : ℕ) → 0xEF < a → three a b c ≡ false
-unfolding three
-three-not a b c h = rw (row-not 0xE0 0xE0 0xA0 0xBF a b (omega arith), row-not 0xE1 0xEC 0x80 0xBF a b (omega arith), row-not 0xED 0xED 0x80 0x9F a b (omega arith), row-not 0xEE 0xEF 0x80 0xBF a b h)
+three-not a b c h = no _ (λ e. let k = three-bytes a b c e in omega arith)
 
 -- ---- an encoding's width
 pub width-of : (v : ℕ) (rest : List ℕ) → Scalar v → width (encoding v ++ rest) ≡ length (encoding v)
@@ -143,3 +142,28 @@ module _ (bytes : List ℕ) where
       go false false true s i j k l n = k refl
       go false false false true i j k l n = l refl
       go false false false false i j k l n = absurd (n refl)
+
+-- ---- the width from the bytes one by one, as the code reads and tests them
+module _ (bytes : List ℕ) {a : ℕ} (first : a ≡ getD bytes 0 0xFF) where
+  pub width-one : one a ≡ true → 1 ≡ width bytes
+  unfolding width
+  width-one p = rw (← first, p)
+
+  module _ {b : ℕ} (second : b ≡ getD bytes 1 0xFF) (not-one : one a ≡ false) where
+    pub width-two : two a b ≡ true → 2 ≡ width bytes
+    unfolding width
+    width-two p = rw (← first, ← second, not-one, p)
+
+    module _ {c : ℕ} (third : c ≡ getD bytes 2 0xFF) (not-two : two a b ≡ false) where
+      pub width-three : three a b c ≡ true → 3 ≡ width bytes
+      unfolding width
+      width-three p = rw (← first, ← second, ← third, not-one, not-two, p)
+
+      module _ {d : ℕ} (fourth : d ≡ getD bytes 3 0xFF) (not-three : three a b c ≡ false) where
+        pub width-four : four a b c d ≡ true → 4 ≡ width bytes
+        unfolding width
+        width-four p = rw (← first, ← second, ← third, ← fourth, not-one, not-two, not-three, p)
+
+        pub width-none : four a b c d ≡ false → 0 ≡ width bytes
+        unfolding width
+        width-none p = rw (← first, ← second, ← third, ← fourth, not-one, not-two, not-three, p)

@@ -1,8 +1,7 @@
 -- `judge` goes over the lines in turn. The loop's invariant: what is made of the text is what is made of the lines left, after those passed.
 -- The measure is what is left of the text. By the law of a turn, proofs/Judged.antt.
 use Prim.Native.Nat.{_+_, _-_, _≤_}
-use mathlib.Core.Path.{_≡_, refl, sym, ap, _∙_}
-use mathlib.Core.List.{List}
+use mathlib.Core.Path.{_≡_, sym, _∙_}
 use native.Mathlib.Omega.{arith}
 use lib.ListN.{length, drop}
 use borrow.Author.Needs.{needs}

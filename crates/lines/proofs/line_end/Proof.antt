@@ -1,7 +1,7 @@
 -- `line_end` finds where the line ends that begins at a place. The loop's invariant: what is left of the line at `end` ends where the line ends.
 -- The measure is what is left of the text.
 use Prim.Native.Nat.{_+_, _-_, _≤_}
-use mathlib.Core.Path.{_≡_, refl, sym, _∙_}
+use mathlib.Core.Path.{_≡_, refl}
 use native.Mathlib.Omega.{arith}
 use lib.ListN.{length, drop}
 use Rattle.lines.specs.Lines.{firstLine}

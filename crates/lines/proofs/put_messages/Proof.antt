@@ -6,7 +6,6 @@ use mathlib.Core.Logic.{⊎-elim}
 use mathlib.Core.List.{flatten}
 use native.Mathlib.Omega.{arith}
 use lib.ListN.{length, getD, drop, length-set}
-use borrow.Author.Needs.{needs}
 use Rattle.layout.specs.Layout.{written}
 use Rattle.layout.proofs.Written.{written-nil, store-then}
 use Rattle.lines.specs.Lines.{lines}

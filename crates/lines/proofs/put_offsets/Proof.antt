@@ -5,7 +5,6 @@ use mathlib.Core.Path.{_≡_, refl, sym, ap, _∙_}
 use mathlib.Core.List.{List, flatten}
 use native.Mathlib.Omega.{arith}
 use lib.ListN.{length, drop}
-use borrow.Author.Needs.{needs}
 use Rattle.layout.specs.Layout.{u16Bytes, written}
 use Rattle.layout.proofs.Written.{written-append}
 use Rattle.texts.specs.Table.{tableMost}

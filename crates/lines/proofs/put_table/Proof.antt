@@ -1,5 +1,4 @@
 -- `put_table` writes count, offsets and messages one behind the other, which is the table.
-use mathlib.Core.Path.{_≡_, sym, ap, _∙_}
 use native.Mathlib.Omega.{arith}
 use borrow.Author.Needs.{needs}
 use Rattle.lines.specs.Lines.{lines}
@@ -38,7 +37,8 @@ returns c =
     let put = middle .before .before .before .before in
     let width = put .before .before in
     let start = width .before .before .before in
-    table-written _ _ _ _ _ _ _ (start .pre) (width .header-width .ensures .0) (put .put-u16 .ensures) (middle .put-offsets .ensures) (last .put-messages .ensures)
+    let header = width .header-width .ensures .0 in
+    table-written _ _ _ _ _ _ _ (start .pre) header (put .put-u16 .ensures) (middle .put-offsets .ensures) (last .put-messages .ensures)
 
 pub put-table-spec : {M : Type 1} → statement M
 put-table-spec =

@@ -1,3 +1,4 @@
+-- `print_spaces` is safe and ends: its loop keeps the row of spaces as it is, and the measure is what is left.
 use mathlib.Core.Path.{_≡_, sym}
 use native.Mathlib.Omega.{arith}
 use lib.Seq.{length-take-le}

@@ -1,3 +1,4 @@
+-- `show_all` is safe and ends: the measure is what is left of the rows.
 use Prim.Native.Nat.{_-_, _≤_}
 use borrow.Author.Needs.{needs}
 use Rattle.listing.proofs.show_all.Statement.{statement}

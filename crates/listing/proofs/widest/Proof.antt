@@ -1,5 +1,5 @@
+-- `widest` is safe and ends: the measure is what is left of the messages.
 use Prim.Native.Nat.{_-_, _≤_}
-use lib.ListN.{length}
 use borrow.Author.Needs.{needs}
 use Rattle.listing.proofs.widest.Statement.{statement}
 use Rattle.listing.proofs.widest.Tie as tie

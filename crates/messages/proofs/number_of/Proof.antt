@@ -1,3 +1,4 @@
+-- `number_of` is safe and ends: the number so far fits a u32, and the measure is what is left of the word.
 use Prim.Native.Nat.{_-_, _≤_}
 use lib.ListN.{length}
 use borrow.Author.Needs.{needs}

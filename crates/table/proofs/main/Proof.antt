@@ -1,3 +1,4 @@
+-- `main` is safe: a table that was made lies in its buffer, by the laws of proofs/Judged.antt in `lines`.
 use mathlib.Core.Path.{sym, ap, _∙_}
 use native.Mathlib.Omega.{arith}
 use borrow.Author.Needs.{needs}

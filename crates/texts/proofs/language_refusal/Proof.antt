@@ -1,3 +1,4 @@
+-- `language_refusal` is the test of the language.
 use Rattle.texts.specs.Text.{languageRefusal}
 use Rattle.texts.proofs.language_refusal.Statement.{statement}
 use Rattle.texts.proofs.language_refusal.Tie as tie

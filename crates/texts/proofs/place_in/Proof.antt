@@ -1,3 +1,4 @@
+-- `place_in` gives the first refusal, or the two offsets of the message.
 use Rattle.texts.specs.Text.{placeIn}
 use borrow.Author.Tests.{eq-eqb, ne-eqb}
 use borrow.Author.Needs.{needs}
@@ -34,7 +35,9 @@ returns-2 c =
     let at-first-refusal = c .before .before .before .first-refusal in
     let at-table-refusal = c .before .before .before .before .table-refusal in
     let at-language-refusal = c .before .before .before .before .before .language-refusal in
-    simp (← c .offset2 .ensures, ← c .before .offset .ensures, eq-eqb _ _ (c .before .before .if1 .left), ← at-first-refusal .ensures, ← at-table-refusal .ensures, ← at-language-refusal .ensures)
+    let none = eq-eqb _ _ (c .before .before .if1 .left) in
+    let start = c .before .offset .ensures in
+    simp (← c .offset2 .ensures, ← start, none, ← at-first-refusal .ensures, ← at-table-refusal .ensures, ← at-language-refusal .ensures)
 
 pub place-in-spec : {M : Type 1} → statement M
 place-in-spec =

@@ -1,3 +1,4 @@
+-- `table_refusal` is the test of the table, then that of the message number.
 use Rattle.texts.specs.Text.{tableRefusal}
 use borrow.Author.Tests.{le-ltb, lt-ltb}
 use borrow.Author.Needs.{needs}

@@ -1,3 +1,4 @@
+-- `text_place` looks in the table that the language chooses.
 use borrow.Author.Tests.{eq-eqb, ne-eqb}
 use borrow.Author.Needs.{needs}
 use Rattle.texts.proofs.text_place.Statement.{statement}

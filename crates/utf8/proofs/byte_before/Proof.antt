@@ -1,3 +1,4 @@
+-- `byte_before` reads the byte of its own place, or FF past the end, by the laws of proofs/Places.antt.
 use mathlib.Core.Path.{sym}
 use native.Mathlib.Omega.{arith}
 use Rattle.utf8.proofs.Places.{there, past}

@@ -1,7 +1,7 @@
 -- `characters` counts the bytes that follow no other. The loop's invariant: those counted and those from `at` on are all.
 -- The measure is what is left of them.
 use Prim.Native.Nat.{_+_, _-_, _≤_}
-use mathlib.Core.Path.{_≡_, refl, sym, ap, _∙_}
+use mathlib.Core.Path.{_≡_, sym, ap, _∙_}
 use mathlib.Core.Logic.{⊎-elim}
 use native.Mathlib.Nat.{zero-add}
 use native.Mathlib.Omega.{arith}
@@ -52,8 +52,12 @@ loop-again c =
     let given = inside .before .before .before .before .args in
     let bytes = given .bytes .now in
     ⊎-elim
-    (λ w. let e = one-counted bytes (head .at) _ (omega arith) (inside .loop-test .taken) (sym (follows .follows .ensures) ∙ not-true _ (w .0 .taken)) in omega arith)
-    (λ w. let e = none-counted bytes (head .at) _ (omega arith) (inside .loop-test .taken) (sym (follows .follows .ensures) ∙ not-false _ (w .0 .left)) in omega arith)
+    (λ w.
+    let begins = sym (follows .follows .ensures) ∙ not-true _ (w .0 .taken) in
+    let e = one-counted bytes (head .at) _ (omega arith) (inside .loop-test .taken) begins in omega arith)
+    (λ w.
+    let not-begins = sym (follows .follows .ensures) ∙ not-false _ (w .0 .left) in
+    let e = none-counted bytes (head .at) _ (omega arith) (inside .loop-test .taken) not-begins in omega arith)
     (c .if1 .came)
 
 returns : tie.Need-returns Inv-loop μ-loop

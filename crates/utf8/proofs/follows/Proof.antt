@@ -1,3 +1,4 @@
+-- `follows` is the test of its definition.
 use Rattle.utf8.specs.Rows.{follows}
 use mathlib.Core.Path.{refl}
 use Rattle.utf8.proofs.follows.Statement.{statement}

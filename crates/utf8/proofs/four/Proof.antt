@@ -1,4 +1,8 @@
+-- `four` is one of the three rows of four bytes.
+use mathlib.Core.Path.{ap}
+use mathlib.Core.Bool.{Bool, _&&_}
 use Rattle.utf8.specs.Rows.{four}
+use Rattle.utf8.proofs.Encoding.{any-of-three}
 use borrow.Author.Needs.{needs}
 use Rattle.utf8.proofs.four.Statement.{statement}
 use Rattle.utf8.proofs.four.Tie as tie
@@ -24,6 +28,7 @@ returns c =
     let at-row2 = c .before .before .before .row2 in
     let at-row = c .before .before .before .before .row in
     simp (← c .follows2 .ensures, ← c .before .follows .ensures, ← c .before .before .row3 .ensures, ← at-row2 .ensures, ← at-row .ensures)
+    (ap (λ (any : Bool). any && c .before .follows .result && c .follows2 .result) (any-of-three _ _ _))
 
 pub four-spec : {M : Type 1} → statement M
 four-spec =

@@ -1,7 +1,7 @@
 -- `is_utf8` says yes exactly where the bytes are UTF-8. The loop's invariant: they are exactly where those from `at` on are.
 -- The measure is what is left of them. By the laws of one step, proofs/Utf8.antt.
-use Prim.Native.Nat.{_+_, _-_}
-use mathlib.Core.Path.{_≡_, refl, sym, ap, _∙_}
+use Prim.Native.Nat.{_-_}
+use mathlib.Core.Path.{refl, sym, _∙_}
 use mathlib.Core.Bool.{false≢true}
 use mathlib.Core.Logic.{_↔_, Iff·rfl, Iff·trans}
 use native.Mathlib.Omega.{arith}

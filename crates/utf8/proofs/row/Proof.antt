@@ -1,3 +1,4 @@
+-- `row` is the test of its definition.
 use Rattle.utf8.specs.Rows.{row}
 use mathlib.Core.Path.{refl}
 use Rattle.utf8.proofs.row.Statement.{statement}

@@ -1,4 +1,8 @@
+-- `three` is one of the four rows of three bytes.
+use mathlib.Core.Path.{ap}
+use mathlib.Core.Bool.{Bool, _&&_}
 use Rattle.utf8.specs.Rows.{three}
+use Rattle.utf8.proofs.Encoding.{any-of-four}
 use borrow.Author.Needs.{needs}
 use Rattle.utf8.proofs.three.Statement.{statement}
 use Rattle.utf8.proofs.three.Tie as tie
@@ -24,6 +28,7 @@ returns c =
     let at-row2 = c .before .before .before .row2 in
     let at-row = c .before .before .before .before .row in
     simp (← c .follows .ensures, ← c .before .row4 .ensures, ← c .before .before .row3 .ensures, ← at-row2 .ensures, ← at-row .ensures)
+    (ap (λ (any : Bool). any && c .follows .result) (any-of-four _ _ _ _))
 
 pub three-spec : {M : Type 1} → statement M
 three-spec =

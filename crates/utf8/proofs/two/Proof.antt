@@ -1,3 +1,4 @@
+-- `two` is the row of two bytes.
 use Rattle.utf8.specs.Rows.{two}
 use borrow.Author.Needs.{needs}
 use Rattle.utf8.proofs.two.Statement.{statement}

@@ -1,6 +1,9 @@
-use Rattle.utf8.specs.Rows.{one, width}
-use borrow.Author.Tests.{le-leb, lt-leb}
+-- `width_at` gives the width of the encoding that begins at a place, 0 where none does: each way out by the law of the rows that were tried on it.
+use mathlib.Core.Path.{sym, _∙_}
 use borrow.Author.Needs.{needs}
+use borrow.Author.Tests.{le-leb, lt-leb}
+use Rattle.utf8.specs.Rows.{one}
+use Rattle.utf8.proofs.Width.{width-one, width-two, width-three, width-four, width-none}
 use Rattle.utf8.proofs.width_at.Statement.{statement}
 use Rattle.utf8.proofs.width_at.Tie as tie
 
@@ -8,8 +11,8 @@ byte-before-requires : tie.Need-byte-before-requires
 byte-before-requires c κs = search needs
 
 returns : tie.Need-returns
-unfolding width one
-returns c = (simp (le-leb _ _ (c .if1 .taken), ← c .before .byte-before .ensures), search needs)
+unfolding one
+returns c = (width-one _ (c .before .byte-before .ensures) (le-leb _ _ (c .if1 .taken)), search needs)
 
 byte-before-requires-2 : tie.Need-byte-before-requires-2
 byte-before-requires-2 c κs = search needs
@@ -18,11 +21,13 @@ two-requires : tie.Need-two-requires
 two-requires c κs = search needs
 
 returns-2 : tie.Need-returns-2
-unfolding width one
+unfolding one
 returns-2 c =
-    let at-if1 = c .before .before .before .if1 in
-    let at-byte-before = c .before .before .before .before .byte-before in
-    (simp (c .if2 .taken, ← c .before .two .ensures, ← c .before .before .byte-before2 .ensures, lt-leb _ _ (at-if1 .left), ← at-byte-before .ensures), search needs)
+    let two = c .before in
+    let second = two .before in
+    let first = second .before .before in
+    let not-one = lt-leb _ _ (second .before .if1 .left) in
+    (width-two _ (first .byte-before .ensures) (second .byte-before2 .ensures) not-one (sym (two .two .ensures) ∙ c .if2 .taken), search needs)
 
 byte-before-requires-3 : tie.Need-byte-before-requires-3
 byte-before-requires-3 c κs = search needs
@@ -31,14 +36,17 @@ three-requires : tie.Need-three-requires
 three-requires c κs = search needs
 
 returns-3 : tie.Need-returns-3
-unfolding width one
+unfolding one
 returns-3 c =
-    let at-if2 = c .before .before .before .if2 in
-    let at-two = c .before .before .before .before .two in
-    let at-byte-before2 = c .before .before .before .before .before .byte-before2 in
-    let at-if1 = c .before .before .before .before .before .before .if1 in
-    let at-byte-before = c .before .before .before .before .before .before .before .byte-before in
-    (simp (c .if3 .taken, ← c .before .three .ensures, ← c .before .before .byte-before3 .ensures, at-if2 .left, ← at-two .ensures, ← at-byte-before2 .ensures, lt-leb _ _ (at-if1 .left), ← at-byte-before .ensures), search needs)
+    let three = c .before in
+    let third = three .before in
+    let two = third .before .before in
+    let second = two .before in
+    let first = second .before .before in
+    let not-one = lt-leb _ _ (second .before .if1 .left) in
+    let not-two = sym (two .two .ensures) ∙ third .before .if2 .left in
+    let is-three = sym (three .three .ensures) ∙ c .if3 .taken in
+    (width-three _ (first .byte-before .ensures) (second .byte-before2 .ensures) not-one (third .byte-before3 .ensures) not-two is-three, search needs)
 
 byte-before-requires-4 : tie.Need-byte-before-requires-4
 byte-before-requires-4 c κs = search needs
@@ -47,30 +55,38 @@ four-requires : tie.Need-four-requires
 four-requires c κs = search needs
 
 returns-4 : tie.Need-returns-4
-unfolding width one
+unfolding one
 returns-4 c =
-    let at-if3 = c .before .before .before .if3 in
-    let at-three = c .before .before .before .before .three in
-    let at-byte-before3 = c .before .before .before .before .before .byte-before3 in
-    let at-if2 = c .before .before .before .before .before .before .if2 in
-    let at-two = c .before .before .before .before .before .before .before .two in
-    let at-byte-before2 = c .before .before .before .before .before .before .before .before .byte-before2 in
-    let at-if1 = c .before .before .before .before .before .before .before .before .before .if1 in
-    let at-byte-before = c .before .before .before .before .before .before .before .before .before .before .byte-before in
-    (simp (c .if4 .taken, ← c .before .four .ensures, ← c .before .before .byte-before4 .ensures, at-if3 .left, ← at-three .ensures, ← at-byte-before3 .ensures, at-if2 .left, ← at-two .ensures, ← at-byte-before2 .ensures, lt-leb _ _ (at-if1 .left), ← at-byte-before .ensures), search needs)
+    let four = c .before in
+    let fourth = four .before in
+    let three = fourth .before .before in
+    let third = three .before in
+    let two = third .before .before in
+    let second = two .before in
+    let first = second .before .before in
+    let not-one = lt-leb _ _ (second .before .if1 .left) in
+    let not-two = sym (two .two .ensures) ∙ third .before .if2 .left in
+    let not-three = sym (three .three .ensures) ∙ fourth .before .if3 .left in
+    let is-four = sym (four .four .ensures) ∙ c .if4 .taken in
+    let tried = width-four _ (first .byte-before .ensures) (second .byte-before2 .ensures) not-one (third .byte-before3 .ensures) not-two in
+    (tried (fourth .byte-before4 .ensures) not-three is-four, search needs)
 
 returns-5 : tie.Need-returns-5
-unfolding width one
+unfolding one
 returns-5 c =
-    let at-if3 = c .before .before .before .if3 in
-    let at-three = c .before .before .before .before .three in
-    let at-byte-before3 = c .before .before .before .before .before .byte-before3 in
-    let at-if2 = c .before .before .before .before .before .before .if2 in
-    let at-two = c .before .before .before .before .before .before .before .two in
-    let at-byte-before2 = c .before .before .before .before .before .before .before .before .byte-before2 in
-    let at-if1 = c .before .before .before .before .before .before .before .before .before .if1 in
-    let at-byte-before = c .before .before .before .before .before .before .before .before .before .before .byte-before in
-    (simp (c .if4 .left, ← c .before .four .ensures, ← c .before .before .byte-before4 .ensures, at-if3 .left, ← at-three .ensures, ← at-byte-before3 .ensures, at-if2 .left, ← at-two .ensures, ← at-byte-before2 .ensures, lt-leb _ _ (at-if1 .left), ← at-byte-before .ensures), search needs)
+    let four = c .before in
+    let fourth = four .before in
+    let three = fourth .before .before in
+    let third = three .before in
+    let two = third .before .before in
+    let second = two .before in
+    let first = second .before .before in
+    let not-one = lt-leb _ _ (second .before .if1 .left) in
+    let not-two = sym (two .two .ensures) ∙ third .before .if2 .left in
+    let not-three = sym (three .three .ensures) ∙ fourth .before .if3 .left in
+    let not-four = sym (four .four .ensures) ∙ c .if4 .left in
+    let tried = width-none _ (first .byte-before .ensures) (second .byte-before2 .ensures) not-one (third .byte-before3 .ensures) not-two in
+    (tried (fourth .byte-before4 .ensures) not-three not-four, search needs)
 
 pub width-at-spec : {M : Type 1} → statement M
 width-at-spec =
