@@ -21,6 +21,8 @@ for file in texts/slovak.txt texts/english.txt; do
     LC_ALL=C grep -n $'\xcc[\x80-\xbf]\|\xcd[\x80-\xaf]' "$file" && miss "$file: a letter is not composed"
     LC_ALL=C grep -n $'[\x01-\x1f\x7f]\|^$\| $' "$file" && miss "$file: an empty line, a space at a line's end or a control character"
     [ -z "$(tail -c 1 "$file")" ] || miss "$file: no line end after the last line"
+    # a character has one byte that is not 80 to BF
+    LC_ALL=C sed $'s/[\x80-\xbf]//g' "$file" | LC_ALL=C grep -n '.\{79\}' && miss "$file: a line of more than 78 characters"
 done
 
 # ---- every message read back from its table, to the byte
@@ -33,6 +35,9 @@ for number in $(seq 0 $((lines - 1))); do
         sed -n "$((number + 1))p" "texts/${language#*:}.txt" | cmp -s - "$room/one" || miss "message $number of ${language#*:} is not its line"
     done
 done
+
+example=$(sed -n 's/^    \(02 00 .*\)/\1/p' texts/README.md | tr -d ' ')
+[ "$(printf 'á\nok\n' | program table | od -An -v -tx1 | tr -d ' \n')" = "$example" ] || miss "the example in README.md is not what table makes"
 
 # ---- refusals, and what is told of files and words: tells WANT WORDS.. whether messages prints just that
 tells() {
