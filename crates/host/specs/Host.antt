@@ -1,4 +1,4 @@
--- What the host program gets: the tick count, or 10,000 plus the refusal's number.
+-- What the host program gets of an exercise: the tick count, or 10,000 plus the refusal's number.
 use Prim.Native.Nat.{ℕ, _+_}
 use mathlib.Core.Bool.{cond}
 use lib.Dec.{eqb}

@@ -2,11 +2,11 @@
 ghost use mathlib.Core.Path.{_≡_};
 ghost use lib.ListN.{length};
 ghost use Rattle.exercise.specs.Run.{exerciseOutcome, exerciseBuffer};
-ghost use Rattle.texts.specs.Text.{textPlace};
+ghost use Rattle.texts.specs.Text.{chosen, textPlace};
 ghost use Rattle.host.specs.Host.{hostNumber};
 use texts::Place;
 
-// A refusal is this plus its number.
+// An exercise that is refused gives this plus the number of the refusal.
 const REFUSED: u32 = 10000;
 
 #[no_mangle]
@@ -23,8 +23,13 @@ pub extern "C" fn foldharbor_run_exercise(exercise: &[u8], card: u32, answers: &
 
 // A text's place and not the text: an exported function can't return a reference.
 #[no_mangle]
-pub extern "C" fn foldharbor_text(first: &[u8], second: &[u8], language: u32, message: u32) -> Place
-    ensures { λ r. ⌜ r ≡ textPlace (now (first .entry)) (now (second .entry)) language message ⌝ }
+pub extern "C" fn foldharbor_text<'a>(
+    first: &'a [u8],
+    second: &'a [u8],
+    language: u32,
+    number: u32,
+) -> Place
+    ensures { λ r. ⌜ r ≡ textPlace (now (chosen language (first .entry) (second .entry))) language number ⌝ }
 {
-    texts::text_place(first, second, language, message)
+    texts::text_place(first, second, language, number)
 }

@@ -13,7 +13,7 @@ use Rattle.utf8.specs.Utf8.{Utf8}
 use Rattle.utf8.proofs.Utf8.{utf8?}
 use Rattle.texts.specs.Table.{mostMessages, tableMost, headerWidth}
 use Rattle.lines.specs.Lines.{lines, firstLine}
-use Rattle.lines.specs.Table.{offsets, tableOf, Room}
+use Rattle.lines.specs.Table.{tableOf, Room}
 use Rattle.lines.specs.Made.{madeAfter, madeOf, made, bytesOf}
 use Rattle.lines.specs.declared.Fault.{Fault}
 use Rattle.lines.specs.declared.Fault.the-variants.{NoLine, TooMany, TooLong, NotUtf8}
@@ -21,7 +21,7 @@ use Rattle.lines.specs.declared.Made.{Made}
 use Rattle.lines.specs.declared.Made.the-variants.{Table, Bad}
 use Rattle.layout.specs.Layout.{written}
 use Rattle.layout.proofs.Written.{written-nil, length-written}
-use Rattle.lines.proofs.Offsets.{offsets-length}
+use Rattle.lines.proofs.Offsets.{table-length}
 use Rattle.lines.proofs.Split.{lines-none, lines-some, lines-at, lines-past, line-slice}
 
 -- ---- no line, and some
@@ -100,6 +100,11 @@ unfolding madeOf
 table-whole [] n m e = absurd (let k : _≡_ {A = ℕ} 0 1 = cc in omega arith)
 table-whole (line ∷ rest) n m e = whole (line ∷ rest) 0 0 n m (omega arith) (omega arith) e
 
+pub table-some : (messages : List (List ℕ)) (n m : ℕ) → madeOf messages ≡ Table n m → 1 ≤ length messages
+unfolding madeOf
+table-some [] n m e = absurd (let k : _≡_ {A = ℕ} 0 1 = cc in omega arith)
+table-some (line ∷ rest) n m e = omega arith
+
 pub table-short : (messages : List (List ℕ)) (n m : ℕ) → madeOf messages ≡ Table n m → m ≤ tableMost
 table-short messages n m e = table-whole messages n m e .short
 
@@ -109,12 +114,10 @@ table-room messages n m room h e =
     record { counts = omega (arith, w .counts); short = omega (arith, w .long, w .short); fits = omega (arith, w .long, w .short) }
 
 table-fits : (messages : List (List ℕ)) (n m : ℕ) → madeOf messages ≡ Table n m → length (tableOf messages) ≤ tableMost
-unfolding tableOf
 table-fits messages n m e =
-    let room = table-room messages n m tableMost (omega arith) e in
-    let long = offsets-length messages (headerWidth (length messages)) in
-    let whole = length-append (offsets (headerWidth (length messages)) messages) (flatten messages) in
-    omega (arith, room .counts, room .short)
+    let long = table-length messages in
+    let w = table-whole messages n m e in
+    omega (arith, w .counts, w .long, w .short)
 
 -- ---- the bytes that are written
 pub bytes-table : (messages : List (List ℕ)) (n m : ℕ) → madeOf messages ≡ Table n m → bytesOf (madeOf messages) messages ≡ tableOf messages

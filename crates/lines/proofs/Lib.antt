@@ -1,3 +1,4 @@
+pub mod Lines
 pub mod Split
 pub mod Judged
 pub mod Offsets

@@ -1,44 +1,28 @@
--- Messages that fit, each on a line of a text: `make` returns and writes their table, which holds them.
+-- Where the lines of a text fit, `make` returns and writes their table, which holds them; and where it makes a table, they fit.
 -- `Post` is the contract as the check reads it off the source; `s .1 .0` is the buffer, the second parameter, at exit.
 use Prim.Native.Nat.{ℕ, suc, _+_, _≤_, _<_}
 use native.Mathlib.Omega.{arith}
-use mathlib.Core.Path.{_≡_, refl, ap, ap₂, _∙_}
+use mathlib.Core.Path.{_≡_, refl, sym, ap, ap₂, _∙_}
 use mathlib.Core.Bool.{decide-iff}
-use mathlib.Core.List.{List, [], _∷_, _++_, flatten, flatMap}
+use mathlib.Core.List.{List, [], _∷_, flatten}
 use lib.ListN.{length, getD, take, length-append}
 use lib.Seq.{take-at}
-use borrow.Author.Tests.{le-ltb, ne-eqb}
+use borrow.Author.Tests.{le-ltb}
 use denote.Ref.{now}
 use contract.Lifetimes.{Lfts}
 use Rattle.utf8.specs.Utf8.{Utf8}
 use Rattle.utf8.proofs.Utf8.{utf8?}
 use Rattle.layout.specs.Layout.{written}
 use Rattle.texts.specs.Table.{mostMessages, tableMost, headerWidth}
-use Rattle.lines.specs.Lines.{lineEnd, onto, lines}
+use Rattle.lines.specs.Lines.{lines}
 use Rattle.lines.specs.Table.{tableOf}
-use Rattle.lines.specs.Made.{madeAfter, madeOf, made, bytesOf}
-use Rattle.lines.specs.Making.{Fitting, textOf, Makes}
+use Rattle.lines.specs.Made.{madeAfter, madeOf}
+use Rattle.lines.specs.Making.{tableLength, Fitting, Makes}
 use Rattle.lines.specs.declared.Made.the-variants.{Table}
-use Rattle.lines.proofs.Judged.{bytes-table}
-use Rattle.lines.proofs.Reading.{table-length, holds}
+use Rattle.lines.proofs.Judged.{bytes-table, table-some, table-whole}
+use Rattle.lines.proofs.Offsets.{table-length}
+use Rattle.lines.proofs.Reading.{holds}
 use Rattle.lines.proofs.make.Reads as making
-
--- ---- the lines of the text are the messages
-line-apart : (message rest : List ℕ) → ((k : ℕ) → k < length message → getD message k 0 ≡ lineEnd → ⊥)
-    → lines (message ++ (lineEnd ∷ []) ++ rest) ≡ message ∷ lines rest
-unfolding lines onto
-line-apart [] rest h = refl
-line-apart (byte ∷ message) rest h =
-    rw (ne-eqb byte lineEnd (h 0 (omega arith)), line-apart message rest (λ k l. h (suc k) (omega arith)))
-
-lines-apart : (messages : List (List ℕ))
-    → ((i k : ℕ) → i < length messages → k < length (getD messages i []) → getD (getD messages i []) k 0 ≡ lineEnd → ⊥)
-    → lines (textOf messages) ≡ messages
-unfolding textOf flatMap lines
-lines-apart [] h = refl
-lines-apart (message ∷ messages) h =
-    line-apart message (textOf messages) (λ k l. h 0 k (omega arith) l)
-    ∙ ap (λ (x : List (List ℕ)). message ∷ x) (lines-apart messages (λ i k l. h (suc i) k (omega arith)))
 
 -- ---- no fault is found
 no-fault : (messages : List (List ℕ)) (count bytes : ℕ) → count + length messages ≤ mostMessages
@@ -59,25 +43,33 @@ front : (l new : List ℕ) → take (length new) (written l 0 new) ≡ new
 unfolding written
 front l new = take-at new _ (length new) refl
 
--- ---- what is made of the text
-module _ (messages : List (List ℕ)) (fit : Fitting messages) where
-  made-of : madeOf messages ≡ Table (length messages) (length (tableOf messages))
-  unfolding madeOf
-  made-of = some-of messages fit
-    where
-      some-of : (messages : List (List ℕ)) → Fitting messages → madeOf messages ≡ Table (length messages) (length (tableOf messages))
-      some-of [] fit = absurd (omega (arith, fit .some))
-      some-of (m ∷ messages) fit =
-          let long = table-length (m ∷ messages) fit in
-          no-fault (m ∷ messages) 0 0 (omega (arith, fit .most)) (omega (arith, fit .short)) (fit .utf8) ∙ ap₂ Table (omega arith) (omega arith)
+-- ---- what is made of messages that fit
+made-fitting : (messages : List (List ℕ)) → Fitting messages → madeOf messages ≡ Table (length messages) (tableLength messages)
+unfolding madeOf
+made-fitting [] fit = absurd (omega (arith, fit .some))
+made-fitting (m ∷ messages) fit =
+    no-fault (m ∷ messages) 0 0 (omega (arith, fit .most)) (omega (arith, fit .short)) (fit .utf8) ∙ ap₂ Table (omega arith) (omega arith)
 
-  pub make-makes : (κs : Lfts 2) (text buffer : _) (r : _) (s : _) → now text ≡ textOf messages
-      → making.Post κs (text, (buffer, tt)) r s → Makes messages r (now (s .1 .0))
-  make-makes κs text buffer r s e p =
-      let split : lines (now text) ≡ messages = ap lines e ∙ lines-apart messages (fit .one-line) in
-      let bytes = ap (λ (x : List (List ℕ)). bytesOf (madeOf x) x) split ∙ bytes-table messages _ _ made-of in
-      record {
-        returned = p .0 ∙ ap madeOf split ∙ made-of;
-        written = ap (take (length (tableOf messages))) (p .1 ∙ ap (written (now buffer) 0) bytes) ∙ front (now buffer) (tableOf messages);
-        holds = holds messages fit;
-      }
+-- ---- where a table is made, they fit
+fitting-made : (messages : List (List ℕ)) (n m : ℕ) → madeOf messages ≡ Table n m → Fitting messages
+fitting-made messages n m e =
+    let w = table-whole messages n m e in
+    record {
+      some = table-some messages n m e;
+      most = omega (arith, w .counts, w .most);
+      short = omega (arith, w .counts, w .long, w .short);
+      utf8 = w .each;
+    }
+
+module _ (κs : Lfts 2) (text buffer : _) (r : _) (s : _) (post : making.Post κs (text, (buffer, tt)) r s) where
+  pub make-makes : Fitting (lines (now text)) → Makes (lines (now text)) r (now (s .1 .0))
+  make-makes fit =
+      let messages = lines (now text) in
+      let e = made-fitting messages fit in
+      let bytes = post .1 ∙ ap (written (now buffer) 0) (bytes-table messages _ _ e) in
+      let start : take (tableLength messages) (now (s .1 .0)) ≡ tableOf messages =
+      ap₂ take (sym (table-length messages)) bytes ∙ front (now buffer) (tableOf messages) in
+      record { returned = post .0 ∙ e; holds = rw start (holds messages fit) }
+
+  pub made-fits : (count length : ℕ) → r ≡ Table count length → Fitting (lines (now text))
+  made-fits count length e = fitting-made (lines (now text)) count length (sym (post .0) ∙ e)

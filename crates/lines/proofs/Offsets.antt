@@ -10,6 +10,7 @@ use Rattle.layout.proofs.Written.{written-append}
 use Rattle.lines.specs.Lines.{lines, firstLine}
 use Rattle.texts.specs.Table.{headerWidth}
 use Rattle.lines.specs.Table.{offsets, tableOf, Room}
+use Rattle.lines.specs.Making.{tableLength}
 use Rattle.lines.proofs.Split.{lines-at, lines-past}
 
 module _ (text : List ℕ) (at end : ℕ) (some : at < length text) (ends : end ≡ at + length (firstLine (drop at text))) where
@@ -34,6 +35,13 @@ pub offsets-length : (messages : List (List ℕ)) (at : ℕ) → length (offsets
 unfolding offsets
 offsets-length [] at = refl
 offsets-length (message ∷ messages) at = let rest = offsets-length messages (at + length message) in omega arith
+
+pub table-length : (messages : List (List ℕ)) → length (tableOf messages) ≡ tableLength messages
+unfolding tableOf
+table-length messages =
+    let wide = offsets-length messages (headerWidth (length messages)) in
+    let whole = length-append (offsets (headerWidth (length messages)) messages) (flatten messages) in
+    omega arith
 
 module _ (messages : List (List ℕ)) (count header : ℕ) (l l₁ l₂ l₃ : List ℕ) where
   pub table-written : Room messages count (length l) → header ≡ headerWidth count

@@ -14,7 +14,7 @@ use Rattle.texts.specs.Table.{headerWidth, count, offset, message}
 use Rattle.texts.proofs.Tables.{Good, good-table}
 use Rattle.lines.specs.Table.{offsets, tableOf}
 use Rattle.lines.specs.Making.{Fitting, Holds}
-use Rattle.lines.proofs.Offsets.{offsets-length}
+use Rattle.lines.proofs.Offsets.{offsets-length, table-length}
 
 -- the bytes of the first i messages
 before : ℕ → List (List ℕ) → ℕ
@@ -92,9 +92,6 @@ module _ (messages : List (List ℕ)) (fit : Fitting messages) where
   unfolding tableOf
   table-is = refl
 
-  pub table-length : length table ≡ headerWidth n + length (flatten messages)
-  table-length = ap length table-is ∙ length-append header (flatten messages) ∙ ap (λ (k : ℕ). k + length (flatten messages)) wide
-
   counts : count table ≡ n
   unfolding tableOf
   counts = u16At-bytes _ 0 n (omega (arith, fit .most)) refl refl
@@ -102,7 +99,6 @@ module _ (messages : List (List ℕ)) (fit : Fitting messages) where
   offset-is : (i : ℕ) → i ≤ n → offset table i ≡ headerWidth n + before i messages
   unfolding tableOf
   offset-is i l =
-      let short = table-length in
       u16At-on _ _ (offsets (headerWidth n) messages ++ flatten messages) (2 * i)
       ∙ offsets-at messages (headerWidth n) (flatten messages) i l (omega (arith, fit .short))
 
@@ -121,7 +117,7 @@ module _ (messages : List (List ℕ)) (fit : Fitting messages) where
   good : Good table
   unfolding before
   good =
-      let long = table-length in
+      let long = table-length messages in
       let all = before-all messages in
       record {
         some = omega (arith, counts, fit .some);

@@ -1,10 +1,10 @@
 -- The lines of a text: each ends with a line end, which the last may lack.
 use Prim.Native.Nat.{ℕ}
 use mathlib.Core.Bool.{cond}
-use mathlib.Core.List.{List, [], _∷_}
+use mathlib.Core.List.{List, [], _∷_, _++_, flatMap}
 use lib.Dec.{eqb}
 
--- in ASCII and in UTF-8
+-- LF
 abbrev pub lineEnd : ℕ
 lineEnd = 10
 
@@ -21,3 +21,7 @@ lines (byte ∷ text) = cond (eqb byte lineEnd) ([] ∷ lines text) (onto byte (
 unfoldable pub firstLine : List ℕ → List ℕ
 firstLine [] = []
 firstLine (byte ∷ text) = cond (eqb byte lineEnd) [] (byte ∷ firstLine text)
+
+-- the text in which each message is a line; that its lines are these, where no message has a line end in it, is `lines-text` in proofs/Lines.antt
+unfoldable pub textOf : List (List ℕ) → List ℕ
+textOf messages = flatMap (λ message. message ++ (lineEnd ∷ [])) messages

@@ -31,5 +31,5 @@ made text = madeOf (lines text)
 
 -- the bytes that are written: the table, or none
 unfoldable pub bytesOf : Made → List (List ℕ) → List ℕ
-bytesOf (Table count length) messages = tableOf messages
-bytesOf (Bad fault line) messages = []
+bytesOf (Table _ _) messages = tableOf messages
+bytesOf (Bad _ _) messages = []

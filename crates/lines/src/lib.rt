@@ -11,7 +11,7 @@ ghost use Rattle.lines.specs.Made.{made, bytesOf};
 use texts::MOST_MESSAGES;
 use texts::TABLE_MOST;
 
-const LINE_END: u8 = 10;
+const LINE_END: u8 = b'\n';
 
 // What can be wrong with a text.
 pub enum Fault {
@@ -124,7 +124,7 @@ fn put_table(text: &[u8], count: usize, table: &mut [u8])
 // Makes the table of the text's lines at the start of `table`, or finds the first fault and writes nothing.
 pub fn make(text: &[u8], table: &mut [u8; TABLE_MOST]) -> Made
     ensures made { λ r. ⌜ r ≡ made (now (text .entry)) ⌝ }
-    ensures table { λ r. ⌜ now (table .exit) ≡ written (now (table .entry)) 0 (bytesOf (made (now (text .entry))) (lines (now (text .entry)))) ⌝ }
+    ensures table { λ _. ⌜ now (table .exit) ≡ written (now (table .entry)) 0 (bytesOf (made (now (text .entry))) (lines (now (text .entry)))) ⌝ }
 {
     let made = judge(text);
     let Made::Table(count, _) = made else {

@@ -1,10 +1,10 @@
 // The messages of two tables of texts on standard output, one of them or all side by side.
 use libc::STDOUT_FILENO;
+use texts::MOST_MESSAGES;
 
 const SPACES: [u8; 16] = [32; 16];
 
-// As many messages as a table can have.
-const MOST_ROWS: u32 = 64;
+const MOST_ROWS: u32 = MOST_MESSAGES as u32;
 
 fn print_refused(refusal: u8) {
     io::write_all(STDOUT_FILENO, b"refused ");
@@ -40,7 +40,7 @@ fn widest<'a>(first: &'a [u8], second: &'a [u8]) -> usize {
     while number < MOST_ROWS {
         let mut refusal = 0u8;
         let text = texts::text(first, second, 1, number, &mut refusal);
-        let width = utf8::characters(text, 0, text.len());
+        let width = utf8::characters(text);
         if most < width {
             most = width;
         }
@@ -65,7 +65,7 @@ fn show_row<'a>(first: &'a [u8], second: &'a [u8], number: u32, width: usize) ->
     print_spaces(2);
     io::write_all(STDOUT_FILENO, left);
     if right.len() != 0 {
-        let used = utf8::characters(left, 0, left.len());
+        let used = utf8::characters(left);
         if used < width {
             print_spaces(width - used);
         }

@@ -1,4 +1,4 @@
-// The numbers of refusal, as the paper's table has them; 0 is none.
+// The numbers of refusal, as the paper's table has them and from 15 on the request that brings them; 0 is none.
 ghost use mathlib.Core.Path.{_≡_};
 ghost use Rattle.refusal.specs.Refusal.{firstRefusal};
 

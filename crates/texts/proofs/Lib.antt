@@ -1,3 +1,4 @@
 pub mod Tables
 pub mod Answers
 pub mod Determined
+pub mod Answered

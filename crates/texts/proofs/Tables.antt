@@ -70,3 +70,7 @@ module _ (table : List ℕ) where
 
   pub offset-most : Good → (i : ℕ) → i ≤ count table → offset table i ≤ length table
   offset-most g i h = let up = offsets-rise g i (count table) h (omega arith) in omega (arith, g .last)
+
+  -- the table's end does not cut its header
+  pub header-whole : Good → headerWidth (count table) ≤ length table
+  header-whole g = rw (g .first) at (offset-most g 0 (omega arith))

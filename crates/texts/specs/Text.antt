@@ -1,35 +1,37 @@
--- The text of a message in a language: the refusal, and the part of the chosen table.
+-- The text of a message in a language: the chosen table, the refusal, and the part of the table.
 use Prim.Native.Nat.{ℕ, _+_}
 use mathlib.Core.Bool.{not, _||_, cond}
 use mathlib.Core.List.{List}
-use lib.Dec.{ltb, eqb}
+use lib.Dec.{leb, eqb}
 use lib.Seq.{slice}
-use Rattle.refusal.specs.Refusal.{badTable, noSuchMessage, noSuchLanguage, firstRefusal}
+use denote.Ref.{RefT}
+use Rattle.refusal.specs.Refusal.{badTable, noSuchMessage, noSuchLanguage}
 use Rattle.texts.specs.Table.{count, offset, tableGood}
 use Rattle.texts.specs.declared.Place.{Place}
 
--- 17: language not 1 (first table) or 2
-unfoldable pub languageRefusal : ℕ → ℕ
-languageRefusal language = cond (eqb language 1 || eqb language 2) 0 noSuchLanguage
+-- the first for language 1, the second for 2; any other language is refused, whatever the tables
+abbrev pub chosen : {A : Type 0} → ℕ → A → A → A
+chosen language first second = cond (eqb language 2) second first
 
--- 15: the table is bad; then 16: the message number is not below the count
-unfoldable pub tableRefusal : List ℕ → ℕ → ℕ
-tableRefusal table message = cond (not (tableGood table)) badTable (cond (ltb message (count table)) 0 noSuchMessage)
+-- of the chosen table
+module _ (table : List ℕ) (language number : ℕ) where
+  -- 17: language not 1 or 2; 15: table bad; 16: message number not below the count
+  unfoldable pub textRefusal : ℕ
+  textRefusal =
+      cond (not (eqb language 1 || eqb language 2)) noSuchLanguage
+      (cond (not (tableGood table)) badTable
+      (cond (leb (count table) number) noSuchMessage 0))
 
--- the refusal, 17 then 15 then 16, and where the message begins and ends in the table, zeros if refused
-unfoldable pub placeIn : List ℕ → ℕ → ℕ → Place
-placeIn table language message =
-    let refusal = firstRefusal (languageRefusal language) (tableRefusal table message) in
-    cond (eqb refusal 0) (record { refusal = 0; start = offset table message; end = offset table (message + 1) })
-    (record { refusal = refusal; start = 0; end = 0 })
+  -- the refusal, and where the message begins and ends in the table, zeros if refused
+  unfoldable pub textPlace : Place
+  textPlace =
+      cond (eqb textRefusal 0) (record { refusal = 0; start = offset table number; end = offset table (number + 1) })
+      (record { refusal = textRefusal; start = 0; end = 0 })
 
-module _ (first second : List ℕ) (language message : ℕ) where
-  abbrev pub chosen : List ℕ
-  chosen = cond (eqb language 2) second first
-
-  abbrev pub textPlace : Place
-  textPlace = placeIn chosen language message
-
-  -- the part of the chosen table that is the answer, empty if refused
+  -- the part of the table that is the answer, empty if refused
   abbrev pub textPart : List ℕ
-  textPart = slice (textPlace .start) (textPlace .end) chosen
+  textPart = slice (textPlace .start) (textPlace .end) table
+
+-- where that part lies: in the lent table's own block of memory, its start behind the table's first byte, so it is no copy
+abbrev pub textAddress : RefT (List ℕ) → ℕ → ℕ → ℕ × ℕ
+textAddress table language number = (table .ptr .0, textPlace (table .now) language number .start + table .ptr .1)

@@ -1,9 +1,10 @@
 // Texts in two languages: the part of a lent table that a message number and a language choose.
 ghost use mathlib.Core.Path.{_≡_};
 ghost use Prim.Native.Nat.{_+_, _*_, _^_, _≤_, _<_};
+ghost use denote.Ref.{ptr};
 ghost use Rattle.numbers.specs.All.{allBelow};
-ghost use Rattle.texts.specs.Table.{headerWidth, offset, headerGood, messageGood, tableGood};
-ghost use Rattle.texts.specs.Text.{languageRefusal, tableRefusal, placeIn, textPlace, textPart};
+ghost use Rattle.texts.specs.Table.{headerWidth, count, offset, headerGood, messageGood, tableGood};
+ghost use Rattle.texts.specs.Text.{chosen, textRefusal, textPlace, textPart, textAddress};
 use layout::u16_at;
 
 // The number of the refusal, 0 where there is none, and where the text begins and ends in its table, zeros if refused.
@@ -27,6 +28,12 @@ pub fn header_width(messages: usize) -> usize
     2 + 2 * (messages + 1)
 }
 
+fn count(table: &[u8]) -> u16
+    ensures { λ r. ⌜ r ≡ count (now (table .entry)) ⌝ }
+{
+    u16_at(table, 0, 0)
+}
+
 // Where a message begins, and the one before it ends.
 fn offset(table: &[u8], i: usize) -> u16
     requires { ⌜ i ≤ 2 ^ 32 ⌝ }
@@ -38,7 +45,7 @@ fn offset(table: &[u8], i: usize) -> u16
 fn header_good(table: &[u8]) -> bool
     ensures { λ r. ⌜ r ≡ headerGood (now (table .entry)) ⌝ }
 {
-    let count = u16_at(table, 0, 0) as usize;
+    let count = count(table) as usize;
     let first = offset(table, 0) as usize;
     let last = offset(table, count) as usize;
     (1 <= count) & (count <= MOST_MESSAGES) & (first == header_width(count)) & (last == table.len())
@@ -73,37 +80,29 @@ fn table_good(table: &[u8]) -> bool
     if !header_good(table) {
         return false;
     }
-    messages_good(table, u16_at(table, 0, 0) as usize)
+    messages_good(table, count(table) as usize)
 }
 
-fn language_refusal(language: u32) -> u8
-    ensures { λ r. ⌜ r ≡ languageRefusal language ⌝ }
+fn text_refusal(table: &[u8], language: u32, number: u32) -> u8
+    ensures { λ r. ⌜ r ≡ textRefusal (now (table .entry)) language number ⌝ }
 {
-    if (language == 1) | (language == 2) {
-        return 0;
+    if !((language == 1) | (language == 2)) {
+        return refusal::NO_SUCH_LANGUAGE;
     }
-    refusal::NO_SUCH_LANGUAGE
-}
-
-fn table_refusal(table: &[u8], message: u32) -> u8
-    ensures { λ r. ⌜ r ≡ tableRefusal (now (table .entry)) message ⌝ }
-{
     if !table_good(table) {
         return refusal::BAD_TABLE;
     }
-    if message < u16_at(table, 0, 0) as u32 {
-        return 0;
+    if count(table) as u32 <= number {
+        return refusal::NO_SUCH_MESSAGE;
     }
-    refusal::NO_SUCH_MESSAGE
+    0
 }
 
 // The place of a message in the table of its language.
-fn place_in(table: &[u8], language: u32, message: u32) -> Place
-    ensures { λ r. ⌜ r ≡ placeIn (now (table .entry)) language message ⌝ }
+fn place_in(table: &[u8], language: u32, number: u32) -> Place
+    ensures { λ r. ⌜ r ≡ textPlace (now (table .entry)) language number ⌝ }
 {
-    let by_language = language_refusal(language);
-    let by_table = table_refusal(table, message);
-    let refusal = refusal::first_refusal(by_language, by_table);
+    let refusal = text_refusal(table, language, number);
     if refusal != 0 {
         return Place {
             refusal: refusal,
@@ -111,7 +110,7 @@ fn place_in(table: &[u8], language: u32, message: u32) -> Place
             end: 0,
         };
     }
-    let i = message as usize;
+    let i = number as usize;
     Place {
         refusal: 0,
         start: offset(table, i),
@@ -119,14 +118,21 @@ fn place_in(table: &[u8], language: u32, message: u32) -> Place
     }
 }
 
-// The place of a message in the first table (language 1) or in the second (2).
-pub fn text_place(first: &[u8], second: &[u8], language: u32, message: u32) -> Place
-    ensures { λ r. ⌜ r ≡ textPlace (now (first .entry)) (now (second .entry)) language message ⌝ }
+// The table of a language: the second for 2, else the first.
+fn chosen<'a>(first: &'a [u8], second: &'a [u8], language: u32) -> &'a [u8]
+    ensures { λ r. ⌜ r ≡ chosen language (first .entry) (second .entry) ⌝ }
 {
     if language == 2 {
-        return place_in(second, language, message);
+        return second;
     }
-    place_in(first, language, message)
+    first
+}
+
+// The place of a message in the first table (language 1) or in the second (2).
+pub fn text_place<'a>(first: &'a [u8], second: &'a [u8], language: u32, number: u32) -> Place
+    ensures { λ r. ⌜ r ≡ textPlace (now (chosen language (first .entry) (second .entry))) language number ⌝ }
+{
+    place_in(chosen(first, second, language), language, number)
 }
 
 // The text itself, a part of the first table or of the second and no copy, empty if refused; the refusal goes to `refusal`.
@@ -134,18 +140,15 @@ pub fn text<'a, 'b>(
     first: &'a [u8],
     second: &'a [u8],
     language: u32,
-    message: u32,
+    number: u32,
     refusal: &'b mut u8,
 ) -> &'a [u8]
-    ensures part { λ r. ⌜ now r ≡ textPart (now (first .entry)) (now (second .entry)) language message ⌝ }
-    ensures refusal { λ r. ⌜ now (refusal .exit) ≡ textPlace (now (first .entry)) (now (second .entry)) language message .refusal ⌝ }
+    ensures bytes { λ r. ⌜ now r ≡ textPart (now (chosen language (first .entry) (second .entry))) language number ⌝ }
+    ensures address { λ r. ⌜ ptr r ≡ textAddress (chosen language (first .entry) (second .entry)) language number ⌝ }
+    ensures refusal { λ _. ⌜ now (refusal .exit) ≡ textPlace (now (chosen language (first .entry) (second .entry))) language number .refusal ⌝ }
 {
-    let place = text_place(first, second, language, message);
+    let table = chosen(first, second, language);
+    let place = place_in(table, language, number);
     *refusal = place.refusal;
-    let start = place.start as usize;
-    let end = place.end as usize;
-    if language == 2 {
-        return &second[start..end];
-    }
-    &first[start..end]
+    &table[place.start as usize..place.end as usize]
 }

@@ -1,4 +1,4 @@
--- A well-formed text has as many characters as scalar values: of each encoding all bytes but the first follow.
+-- A well-formed text has as many characters as scalar values: of each encoding all bytes but the first are 80..BF.
 -- By the size of the value, then by induction on the values.
 use Prim.Native.Nat.{ℕ, suc, _+_, _/_, _≤_, _<_}
 use native.Mathlib.Numerals.{add-one}
@@ -6,35 +6,35 @@ use native.Mathlib.Omega.{arith}
 use mathlib.Core.Path.{_≡_, refl, sym, ap, _∙_}
 use mathlib.Core.Bool.{false, true, cond, and-false}
 use mathlib.Core.List.{List, [], _∷_, _++_, flatMap}
-use lib.ListN.{length, getD}
-use lib.Seq.{slice, slice-cons}
+use lib.ListN.{length, getD, drop, drop-of-length-le}
+use lib.Seq.{drop-cons}
 use borrow.Author.Tests.{lt-leb}
-use Rattle.utf8.specs.Utf8.{following, encoding, Utf8}
-use Rattle.utf8.specs.Rows.{follows}
+use Rattle.utf8.specs.Utf8.{trailing, encoding, Utf8}
+use Rattle.utf8.specs.Rows.{isTrailing}
 use Rattle.utf8.specs.Characters.{characters}
-use Rattle.utf8.proofs.Encoding.{Sized, in-one, in-two, in-three, in-four, sized, follows-iff}
+use Rattle.utf8.proofs.Encoding.{Sized, in-one, in-two, in-three, in-four, sized, trailing-iff}
 
-follows-low : (byte : ℕ) → byte < 0x80 → follows byte ≡ false
-unfolding follows
-follows-low byte h = rw (lt-leb 0x80 byte h)
+trailing-low : (byte : ℕ) → byte < 0x80 → isTrailing byte ≡ false
+unfolding isTrailing
+trailing-low byte h = rw (lt-leb 0x80 byte h)
 
-follows-high : (byte : ℕ) → 0xBF < byte → follows byte ≡ false
-unfolding follows
-follows-high byte h = rw (lt-leb byte 0xBF h, and-false)
+trailing-high : (byte : ℕ) → 0xBF < byte → isTrailing byte ≡ false
+unfolding isTrailing
+trailing-high byte h = rw (lt-leb byte 0xBF h, and-false)
 
-follows-next : (bits : ℕ) → follows (following bits) ≡ true
-follows-next bits = follows-iff _ .1 (omega arith)
+trailing-next : (bits : ℕ) → isTrailing (trailing bits) ≡ true
+trailing-next bits = trailing-iff _ .1 (omega arith)
 
 one-more : (v : ℕ) (rest : List ℕ) → characters (encoding v ++ rest) ≡ suc (characters rest)
 unfolding characters
 one-more v rest = go (sized v)
   where
     go : Sized v → characters (encoding v ++ rest) ≡ suc (characters rest)
-    go (in-one h e) = rw (e, follows-low v (omega arith)) (omega arith)
-    go (in-two l h e) = rw (e, follows-high (0xC0 + v / 64) (omega arith), follows-next v) (omega arith)
-    go (in-three l h e) = rw (e, follows-high (0xE0 + v / 4096) (omega arith), follows-next (v / 64), follows-next v) (omega arith)
+    go (in-one h e) = rw (e, trailing-low v (omega arith)) (omega arith)
+    go (in-two l h e) = rw (e, trailing-high (0xC0 + v / 64) (omega arith), trailing-next v) (omega arith)
+    go (in-three l h e) = rw (e, trailing-high (0xE0 + v / 4096) (omega arith), trailing-next (v / 64), trailing-next v) (omega arith)
     go (in-four l e) =
-        rw (e, follows-high (0xF0 + v / 262144) (omega arith), follows-next (v / 4096), follows-next (v / 64), follows-next v) (omega arith)
+        rw (e, trailing-high (0xF0 + v / 262144) (omega arith), trailing-next (v / 4096), trailing-next (v / 64), trailing-next v) (omega arith)
 
 counted : (values : List ℕ) → characters (flatMap encoding values) ≡ length values
 unfolding flatMap characters
@@ -44,18 +44,12 @@ counted (v ∷ values) = one-more v (flatMap encoding values) ∙ ap suc (counte
 pub characters-values : (bytes : List ℕ) (u : Utf8 bytes) → characters bytes ≡ length (u .values)
 characters-values bytes u = ap characters (sym (u .encoded)) ∙ counted (u .values)
 
-pub none-none : characters [] ≡ 0
+-- ---- the bytes of a list from a place on, one after the other
+pub none-counted : (bytes : List ℕ) (at : ℕ) → length bytes ≤ at → characters (drop at bytes) ≡ 0
 unfolding characters
-none-none = refl
+none-counted bytes at h = ap characters (drop-of-length-le bytes h)
 
--- ---- the bytes of a list from a place to a place, one after the other
-module _ (bytes : List ℕ) (at to : ℕ) (fits : to ≤ length bytes) (some : at < to) where
-  on : characters (slice at to bytes) ≡ cond (follows (getD bytes at 0)) 0 1 + characters (slice (at + 1) to bytes)
-  unfolding characters
-  on = rw (add-one, slice-cons at to bytes 0 some fits)
-
-  pub none-counted : follows (getD bytes at 0) ≡ true → characters (slice at to bytes) ≡ characters (slice (at + 1) to bytes)
-  none-counted e = on ∙ rw e (omega arith)
-
-  pub one-counted : follows (getD bytes at 0) ≡ false → characters (slice at to bytes) ≡ 1 + characters (slice (at + 1) to bytes)
-  one-counted e = on ∙ rw e
+pub next-counted : (bytes : List ℕ) (at : ℕ) → at < length bytes
+    → characters (drop at bytes) ≡ cond (isTrailing (getD bytes at 0)) 0 1 + characters (drop (at + 1) bytes)
+unfolding characters
+next-counted bytes at h = rw (add-one, drop-cons bytes at 0 h)

@@ -9,15 +9,15 @@ use mathlib.Core.List.{List, [], _∷_}
 use lib.ListN.{getD}
 use borrow.Author.Tests.{le-leb, lt-leb}
 use Rattle.numbers.proofs.Tests.{and-iff, or-iff, leb-iff, le-or-lt}
-use Rattle.utf8.specs.Utf8.{Scalar, following, encoding}
-use Rattle.utf8.specs.Rows.{follows, row, anyOf, one, two, three, four}
+use Rattle.utf8.specs.Utf8.{Scalar, trailing, encoding}
+use Rattle.utf8.specs.Rows.{isTrailing, row, anyOf, one, two, three, four}
 
 -- ---- a value by the row of table 3-6 that encodes it
 pub data Sized (v : ℕ) : Type 0 where
   in-one : v ≤ 0x7F → encoding v ≡ v ∷ [] → Sized v
-  in-two : 0x7F < v → v ≤ 0x7FF → encoding v ≡ (0xC0 + v / 64) ∷ following v ∷ [] → Sized v
-  in-three : 0x7FF < v → v ≤ 0xFFFF → encoding v ≡ (0xE0 + v / 4096) ∷ following (v / 64) ∷ following v ∷ [] → Sized v
-  in-four : 0xFFFF < v → encoding v ≡ (0xF0 + v / 262144) ∷ following (v / 4096) ∷ following (v / 64) ∷ following v ∷ [] → Sized v
+  in-two : 0x7F < v → v ≤ 0x7FF → encoding v ≡ (0xC0 + v / 64) ∷ trailing v ∷ [] → Sized v
+  in-three : 0x7FF < v → v ≤ 0xFFFF → encoding v ≡ (0xE0 + v / 4096) ∷ trailing (v / 64) ∷ trailing v ∷ [] → Sized v
+  in-four : 0xFFFF < v → encoding v ≡ (0xF0 + v / 262144) ∷ trailing (v / 4096) ∷ trailing (v / 64) ∷ trailing v ∷ [] → Sized v
 
 pub sized : (v : ℕ) → Sized v
 unfolding encoding
@@ -40,9 +40,9 @@ scalar-most v (inl h) = omega arith
 scalar-most v (inr h) = h .1
 
 -- ---- table 3-7 as facts
-pub follows-iff : (byte : ℕ) → (follows byte ≡ true) ↔ ((0x80 ≤ byte) × (byte ≤ 0xBF))
-unfolding follows
-follows-iff byte = simp (and-iff, leb-iff) Iff·rfl
+pub trailing-iff : (byte : ℕ) → (isTrailing byte ≡ true) ↔ ((0x80 ≤ byte) × (byte ≤ 0xBF))
+unfolding isTrailing
+trailing-iff byte = simp (and-iff, leb-iff) Iff·rfl
 
 pub record Row (first last low high a b : ℕ) : Type 0 where
   pub from : first ≤ a
@@ -88,14 +88,14 @@ pub in-row-one : (v : ℕ) → v ≤ 0x7F → one v ≡ true
 unfolding one
 in-row-one v h = le-leb _ _ h
 
-pub in-row-two : (v : ℕ) → 0x7F < v → v ≤ 0x7FF → two (0xC0 + v / 64) (following v) ≡ true
+pub in-row-two : (v : ℕ) → 0x7F < v → v ≤ 0x7FF → two (0xC0 + v / 64) (trailing v) ≡ true
 unfolding two
 in-row-two v l h = is-row (omega arith)
 
-pub in-row-three : (v : ℕ) → Scalar v → 0x7FF < v → v ≤ 0xFFFF → three (0xE0 + v / 4096) (following (v / 64)) (following v) ≡ true
+pub in-row-three : (v : ℕ) → Scalar v → 0x7FF < v → v ≤ 0xFFFF → three (0xE0 + v / 4096) (trailing (v / 64)) (trailing v) ≡ true
 unfolding three
 in-row-three v s l h =
-    and-iff (anyOf _) (follows (following v)) .1 (
+    and-iff (anyOf _) (isTrailing (trailing v)) .1 (
       ⊎-elim
           (λ (low : v ≤ 0xD7FF).
           ⊎-elim
@@ -105,22 +105,22 @@ in-row-three v s l h =
           (le-or-lt v 0xFFF))
           (λ (high : (0xE000 ≤ v) × (v ≤ 0x10FFFF)). any-at _ 3 (is-row (omega arith)))
           s,
-      follows-iff _ .1 (omega arith),
+      trailing-iff _ .1 (omega arith),
     )
 
-pub in-row-four : (v : ℕ) → v ≤ 0x10FFFF → 0xFFFF < v → four (0xF0 + v / 262144) (following (v / 4096)) (following (v / 64)) (following v) ≡ true
+pub in-row-four : (v : ℕ) → v ≤ 0x10FFFF → 0xFFFF < v → four (0xF0 + v / 262144) (trailing (v / 4096)) (trailing (v / 64)) (trailing v) ≡ true
 unfolding four
 in-row-four v h l =
-    and-iff (anyOf _ && follows (following (v / 64))) (follows (following v)) .1 (
-      and-iff (anyOf _) (follows (following (v / 64))) .1 (
+    and-iff (anyOf _ && isTrailing (trailing (v / 64))) (isTrailing (trailing v)) .1 (
+      and-iff (anyOf _) (isTrailing (trailing (v / 64))) .1 (
         ⊎-elim
             (λ (a : v ≤ 0x3FFFF). any-at _ 0 (is-row (omega arith)))
             (λ (a : 0x3FFFF < v).
             ⊎-elim (λ (b : v ≤ 0xFFFFF). any-at _ 1 (is-row (omega arith))) (λ (b : 0xFFFFF < v). any-at _ 2 (is-row (omega arith))) (le-or-lt v 0xFFFFF))
             (le-or-lt v 0x3FFFF),
-        follows-iff _ .1 (omega arith),
+        trailing-iff _ .1 (omega arith),
       ),
-      follows-iff _ .1 (omega arith),
+      trailing-iff _ .1 (omega arith),
     )
 
 -- ---- what a row lists is an encoding
@@ -164,8 +164,8 @@ module _ (a b c : ℕ) where
   pub three-bytes : three a b c ≡ true → Scalar value-three × OfThree
   unfolding three
   three-bytes e =
-      let h = and-iff (anyOf _) (follows c) .0 e in
-      let k = follows-iff c .0 (h .1) in
+      let h = and-iff (anyOf _) (isTrailing c) .0 e in
+      let k = trailing-iff c .0 (h .1) in
       any-gives _ (
         λ x. let r = row-is x in (inl (omega arith), omega arith),
         (
@@ -203,10 +203,10 @@ module _ (a b c d : ℕ) where
   pub four-bytes : four a b c d ≡ true → OfFour
   unfolding four
   four-bytes e =
-      let h = and-iff (anyOf _ && follows c) (follows d) .0 e in
-      let i = and-iff (anyOf _) (follows c) .0 (h .0) in
-      let k = follows-iff c .0 (i .1) in
-      let l = follows-iff d .0 (h .1) in
+      let h = and-iff (anyOf _ && isTrailing c) (isTrailing d) .0 e in
+      let i = and-iff (anyOf _) (isTrailing c) .0 (h .0) in
+      let k = trailing-iff c .0 (i .1) in
+      let l = trailing-iff d .0 (h .1) in
       any-gives _ (λ x. let r = row-is x in omega arith, (λ x. let r = row-is x in omega arith, (λ x. let r = row-is x in omega arith, tt))) (i .0)
 
   pub four-encodes : four a b c d ≡ true → Encodes (a ∷ b ∷ c ∷ d ∷ [])

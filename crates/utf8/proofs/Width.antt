@@ -11,7 +11,7 @@ use lib.Seq.{drop-cons}
 use borrow.Author.Tests.{lt-leb, leb-true}
 use Rattle.numbers.proofs.Tests.{le-or-lt}
 use Rattle.numbers.proofs.Choice.{most-iff}
-use Rattle.utf8.specs.Utf8.{Scalar, following, encoding}
+use Rattle.utf8.specs.Utf8.{Scalar, trailing, encoding}
 use Rattle.utf8.specs.Rows.{row, one, two, three, four, width}
 use Rattle.utf8.proofs.Encoding.{
   Sized,
@@ -59,13 +59,13 @@ width-of v rest s = go (sized v)
     go : Sized v → width (encoding v ++ rest) ≡ length (encoding v)
     go (in-one h e) = rw (e, in-row-one v h)
     go (in-two l h e) = rw (e, one-not (0xC0 + v / 64) (omega arith), in-row-two v l h)
-    go (in-three l h e) = rw (e, one-not (0xE0 + v / 4096) (omega arith), two-not (0xE0 + v / 4096) (following (v / 64)) (omega arith), in-row-three v s l h)
+    go (in-three l h e) = rw (e, one-not (0xE0 + v / 4096) (omega arith), two-not (0xE0 + v / 4096) (trailing (v / 64)) (omega arith), in-row-three v s l h)
     go (in-four l e) =
         rw (
           e,
           one-not (0xF0 + v / 262144) (omega arith),
-          two-not (0xF0 + v / 262144) (following (v / 4096)) (omega arith),
-          three-not (0xF0 + v / 262144) (following (v / 4096)) (following (v / 64)) (omega arith),
+          two-not (0xF0 + v / 262144) (trailing (v / 4096)) (omega arith),
+          three-not (0xF0 + v / 262144) (trailing (v / 4096)) (trailing (v / 64)) (omega arith),
           in-row-four v (scalar-most v s) l,
         )
 

@@ -6,18 +6,18 @@ use mathlib.Core.List.{List, [], _∷_}
 use lib.ListN.{getD}
 use lib.Dec.{leb}
 
--- a byte that follows another: 80..BF
-unfoldable pub follows : ℕ → Bool
-follows byte = leb 0x80 byte && leb byte 0xBF
+-- a byte behind the first: 80..BF
+unfoldable pub isTrailing : ℕ → Bool
+isTrailing byte = leb 0x80 byte && leb byte 0xBF
 
--- the first two columns of a row: first..last, then low..high
+-- the first two bytes of a row: first..last, then low..high
 unfoldable pub row : ℕ → ℕ → ℕ → ℕ → ℕ → ℕ → Bool
 row first last low high a b = leb first a && leb a last && leb low b && leb b high
 
 -- one of several rows
 unfoldable pub anyOf : List Bool → Bool
 anyOf [] = false
-anyOf (row ∷ rows) = row || anyOf rows
+anyOf (test ∷ tests) = test || anyOf tests
 
 -- the rows of one, two, three and four bytes
 unfoldable pub one : ℕ → Bool
@@ -34,7 +34,7 @@ three a b c =
     ∷ row 0xED 0xED 0x80 0x9F a b
     ∷ row 0xEE 0xEF 0x80 0xBF a b
     ∷ [])
-    && follows c
+    && isTrailing c
 
 unfoldable pub four : ℕ → ℕ → ℕ → ℕ → Bool
 four a b c d =
@@ -43,7 +43,7 @@ four a b c d =
     ∷ row 0xF1 0xF3 0x80 0xBF a b
     ∷ row 0xF4 0xF4 0x80 0x8F a b
     ∷ [])
-    && follows c && follows d
+    && isTrailing c && isTrailing d
 
 -- how many bytes the encoding takes with which the bytes begin, 0 where they begin with none; past the end stands FF, a byte of no row
 unfoldable pub width : List ℕ → ℕ

@@ -6,17 +6,17 @@ ghost use Prim.Native.Nat.{_≤_, _<_, min};
 ghost use lib.ListN.{length, getD};
 ghost use lib.Seq.{slice};
 ghost use Rattle.utf8.specs.Utf8.{Utf8};
-ghost use Rattle.utf8.specs.Rows.{follows, row, two, three, four, width};
+ghost use Rattle.utf8.specs.Rows.{isTrailing, row, two, three, four, width};
 ghost use Rattle.utf8.specs.Characters.{characters};
 
-// A byte that follows another.
-fn follows(byte: u8) -> bool
-    ensures { λ r. ⌜ r ≡ follows byte ⌝ }
+// A byte behind the first.
+fn is_trailing(byte: u8) -> bool
+    ensures { λ r. ⌜ r ≡ isTrailing byte ⌝ }
 {
     (0x80 <= byte) & (byte <= 0xbf)
 }
 
-// The first two columns of a row: first..last, then low..high.
+// The first two bytes of a row: first..last, then low..high.
 fn row(first: u8, last: u8, low: u8, high: u8, a: u8, b: u8) -> bool
     ensures { λ r. ⌜ r ≡ row first last low high a b ⌝ }
 {
@@ -37,7 +37,7 @@ fn three(a: u8, b: u8, c: u8) -> bool
         | row(0xe1, 0xec, 0x80, 0xbf, a, b)
         | row(0xed, 0xed, 0x80, 0x9f, a, b)
         | row(0xee, 0xef, 0x80, 0xbf, a, b))
-        & follows(c)
+        & is_trailing(c)
 }
 
 fn four(a: u8, b: u8, c: u8, d: u8) -> bool
@@ -46,12 +46,12 @@ fn four(a: u8, b: u8, c: u8, d: u8) -> bool
     (row(0xf0, 0xf0, 0x90, 0xbf, a, b)
         | row(0xf1, 0xf3, 0x80, 0xbf, a, b)
         | row(0xf4, 0xf4, 0x80, 0x8f, a, b))
-        & follows(c)
-        & follows(d)
+        & is_trailing(c)
+        & is_trailing(d)
 }
 
 // The byte k places after `at`, where it lies before `to`; else FF, which stands in no row.
-fn byte_before(bytes: &[u8], at: usize, k: usize, to: usize) -> u8
+fn byte_within(bytes: &[u8], at: usize, k: usize, to: usize) -> u8
     requires { ⌜ (at ≤ to) × (to ≤ length (now bytes)) ⌝ }
     ensures { λ r. ⌜ r ≡ getD (slice at to (now (bytes .entry))) k 0xFF ⌝ }
 {
@@ -63,19 +63,19 @@ fn width_at(bytes: &[u8], at: usize, to: usize) -> usize
     requires { ⌜ (at ≤ to) × (to ≤ length (now bytes)) ⌝ }
     ensures { λ r. ⌜ (r ≡ width (slice at to (now (bytes .entry)))) × (r ≤ 4) ⌝ }
 {
-    let a = byte_before(bytes, at, 0, to);
+    let a = byte_within(bytes, at, 0, to);
     if a <= 0x7f {
         return 1;
     }
-    let b = byte_before(bytes, at, 1, to);
+    let b = byte_within(bytes, at, 1, to);
     if two(a, b) {
         return 2;
     }
-    let c = byte_before(bytes, at, 2, to);
+    let c = byte_within(bytes, at, 2, to);
     if three(a, b, c) {
         return 3;
     }
-    if four(a, b, c, byte_before(bytes, at, 3, to)) {
+    if four(a, b, c, byte_within(bytes, at, 3, to)) {
         return 4;
     }
     0
@@ -104,15 +104,14 @@ pub fn is_utf8(bytes: &[u8], from: usize, to: usize) -> bool
     true
 }
 
-// How many characters the bytes from a place to a place have.
-pub fn characters(bytes: &[u8], from: usize, to: usize) -> usize
-    ensures { λ r. ⌜ r ≡ characters (slice from to (now (bytes .entry))) ⌝ }
+// How many characters the bytes have.
+pub fn characters(bytes: &[u8]) -> usize
+    ensures { λ r. ⌜ r ≡ characters (now (bytes .entry)) ⌝ }
 {
-    let end = end_before(bytes, to);
     let mut count = 0;
-    let mut at = from;
-    while at < end {
-        if !follows(bytes[at]) {
+    let mut at = 0;
+    while at < bytes.len() {
+        if !is_trailing(bytes[at]) {
             count += 1;
         }
         at += 1;

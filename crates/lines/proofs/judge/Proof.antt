@@ -70,8 +70,7 @@ is-utf8-requires c κs = search needs
 
 returns-4 : tie.Need-returns-4 Inv-loop μ-loop
 returns-4 c =
-    let at-before = c .before .before .before .before .before in
-    let at-end = at-before in
+    let at-end = c .before .before .before .before .before in
     let inside = at-end .before in
     let head = inside .before .loop in
     let text = inside .before .before .before .before .args .text .now in
@@ -95,8 +94,7 @@ loop-less c = omega arith
 
 loop-again : tie.Need-loop-again Inv-loop μ-loop
 loop-again c =
-    let at-before = c .before .before .before .before .before in
-    let at-end = at-before in
+    let at-end = c .before .before .before .before .before in
     let inside = at-end .before in
     let head = inside .before .loop in
     let text = inside .before .before .before .before .args .text .now in

@@ -4,8 +4,8 @@ use Rattle.texts.specs.Table.{headerGood}
 use Rattle.texts.proofs.header_good.Statement.{statement}
 use Rattle.texts.proofs.header_good.Tie as tie
 
-u16-at-requires : tie.Need-u16-at-requires
-u16-at-requires c κs = search needs
+count-requires : tie.Need-count-requires
+count-requires c κs = search needs
 
 cast-count : tie.Need-cast-count
 cast-count c = search needs
@@ -28,14 +28,14 @@ header-width-requires c κs = search needs
 returns : tie.Need-returns
 unfolding headerGood
 returns c =
-    let at-u16-at = c .before .before .before .u16-at in
-    simp (← c .header-width .ensures .0, ← c .before .offset2 .ensures, ← c .before .before .offset .ensures, ← at-u16-at .ensures)
+    let count = c .before .before .before .count in
+    simp (← c .header-width .ensures .0, ← c .before .offset2 .ensures, ← c .before .before .offset .ensures, ← count .ensures)
 
 pub header-good-spec : {M : Type 1} → statement M
 header-good-spec =
     tie.close
     (tie.spec
-    u16-at-requires
+    count-requires
     cast-count
     offset-requires
     cast-first

@@ -30,10 +30,9 @@ is-utf8-requires c κs = search needs
 returns : tie.Need-returns
 unfolding messageGood
 returns c =
-    let at-args = c .before .before .before .before .args in
     let start = c .before .before .offset .ensures in
     let end = c .before .offset2 .ensures in
-    let given = at-args in
+    let given = c .before .before .before .before .args in
     let well-formed = decided (utf8? (message (given .table .now) (given .i))) _ (rw (start, end) at (c .is-utf8 .ensures)) in
     ap₂ _&&_ (ap₂ leb start end) well-formed
 

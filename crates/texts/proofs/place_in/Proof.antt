@@ -1,24 +1,16 @@
--- `place_in` gives the first refusal, or the two offsets of the message.
-use Rattle.texts.specs.Text.{placeIn}
+-- `place_in` gives the refusal, or the two offsets of the message.
+use Rattle.texts.specs.Text.{textPlace}
 use borrow.Author.Tests.{eq-eqb, ne-eqb}
 use borrow.Author.Needs.{needs}
 use Rattle.texts.proofs.place_in.Statement.{statement}
 use Rattle.texts.proofs.place_in.Tie as tie
 
-language-refusal-requires : tie.Need-language-refusal-requires
-language-refusal-requires c κs = search needs
-
-table-refusal-requires : tie.Need-table-refusal-requires
-table-refusal-requires c κs = search needs
-
-first-refusal-requires : tie.Need-first-refusal-requires
-first-refusal-requires c κs = search needs
+text-refusal-requires : tie.Need-text-refusal-requires
+text-refusal-requires c κs = search needs
 
 returns : tie.Need-returns
-unfolding placeIn
-returns c =
-    let at-language-refusal = c .before .before .before .language-refusal in
-    simp (ne-eqb _ _ (c .if1 .taken), ← c .before .first-refusal .ensures, ← c .before .before .table-refusal .ensures, ← at-language-refusal .ensures)
+unfolding textPlace
+returns c = simp (ne-eqb _ _ (c .if1 .taken), ← c .before .text-refusal .ensures)
 
 offset-requires : tie.Need-offset-requires
 offset-requires c κs = search needs
@@ -30,22 +22,16 @@ offset-requires-2 : tie.Need-offset-requires-2
 offset-requires-2 c κs = search needs
 
 returns-2 : tie.Need-returns-2
-unfolding placeIn
+unfolding textPlace
 returns-2 c =
-    let at-first-refusal = c .before .before .before .first-refusal in
-    let at-table-refusal = c .before .before .before .before .table-refusal in
-    let at-language-refusal = c .before .before .before .before .before .language-refusal in
-    let none = eq-eqb _ _ (c .before .before .if1 .left) in
-    let start = c .before .offset .ensures in
-    simp (← c .offset2 .ensures, ← start, none, ← at-first-refusal .ensures, ← at-table-refusal .ensures, ← at-language-refusal .ensures)
+    let judged = c .before .before in
+    simp (← c .offset2 .ensures, ← c .before .offset .ensures, eq-eqb _ _ (judged .if1 .left), ← judged .before .text-refusal .ensures)
 
 pub place-in-spec : {M : Type 1} → statement M
 place-in-spec =
     tie.close
     (tie.spec
-    language-refusal-requires
-    table-refusal-requires
-    first-refusal-requires
+    text-refusal-requires
     returns
     offset-requires
     add-offset

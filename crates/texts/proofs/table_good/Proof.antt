@@ -13,8 +13,8 @@ returns : tie.Need-returns
 unfolding tableGood
 returns c = simp (not-true (c .before .header-good .result) (c .if1 .taken), ← c .before .header-good .ensures)
 
-u16-at-requires : tie.Need-u16-at-requires
-u16-at-requires c κs = search needs
+count-requires : tie.Need-count-requires
+count-requires c κs = search needs
 
 cast-messages-good : tie.Need-cast-messages-good
 cast-messages-good c = search needs
@@ -25,10 +25,10 @@ messages-good-requires c κs = search needs
 returns-2 : tie.Need-returns-2
 unfolding tableGood
 returns-2 c =
-    let count = c .before in
-    let header = count .before .before in
-    let good = sym (header .header-good .ensures) ∙ not-false _ (count .before .if1 .left) in
-    rw good (rw (count .u16-at .ensures) at (c .messages-good .ensures))
+    let counted = c .before in
+    let header = counted .before .before in
+    let good = sym (header .header-good .ensures) ∙ not-false _ (counted .before .if1 .left) in
+    rw good (rw (counted .count .ensures) at (c .messages-good .ensures))
 
 pub table-good-spec : {M : Type 1} → statement M
 table-good-spec =
@@ -36,7 +36,7 @@ table-good-spec =
     (tie.spec
     header-good-requires
     returns
-    u16-at-requires
+    count-requires
     cast-messages-good
     messages-good-requires
     returns-2)

@@ -16,19 +16,19 @@ row-requires-2 c κs = search needs
 row-requires-3 : tie.Need-row-requires-3
 row-requires-3 c κs = search needs
 
-follows-requires : tie.Need-follows-requires
-follows-requires c κs = search needs
+is-trailing-requires : tie.Need-is-trailing-requires
+is-trailing-requires c κs = search needs
 
-follows-requires-2 : tie.Need-follows-requires-2
-follows-requires-2 c κs = search needs
+is-trailing-requires-2 : tie.Need-is-trailing-requires-2
+is-trailing-requires-2 c κs = search needs
 
 returns : tie.Need-returns
 unfolding four
 returns c =
     let at-row2 = c .before .before .before .row2 in
     let at-row = c .before .before .before .before .row in
-    simp (← c .follows2 .ensures, ← c .before .follows .ensures, ← c .before .before .row3 .ensures, ← at-row2 .ensures, ← at-row .ensures)
-    (ap (λ (any : Bool). any && c .before .follows .result && c .follows2 .result) (any-of-three _ _ _))
+    simp (← c .is-trailing2 .ensures, ← c .before .is-trailing .ensures, ← c .before .before .row3 .ensures, ← at-row2 .ensures, ← at-row .ensures)
+    (ap (λ (any : Bool). any && c .before .is-trailing .result && c .is-trailing2 .result) (any-of-three _ _ _))
 
 pub four-spec : {M : Type 1} → statement M
 four-spec =
@@ -37,6 +37,6 @@ four-spec =
     row-requires
     row-requires-2
     row-requires-3
-    follows-requires
-    follows-requires-2
+    is-trailing-requires
+    is-trailing-requires-2
     returns)

@@ -51,9 +51,7 @@ loop-again c =
 
 returns-2 : tie.Need-returns-2 Inv-loop μ-loop
 returns-2 c =
-    let at-args = c .before .before .before .before .args in
-    let given = at-args in
-    let end = none-left (given .bytes .now) (c .before .loop .at) _ (c .loop-test .left) in
+    let end = none-left (c .before .before .before .before .args .bytes .now) (c .before .loop .at) _ (c .loop-test .left) in
     (λ e. c .before .loop .inv .1 (rw end utf8-nil), λ u. refl)
 
 pub is-utf8-spec : {M : Type 1} → statement M

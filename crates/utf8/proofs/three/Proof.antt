@@ -19,18 +19,18 @@ row-requires-3 c κs = search needs
 row-requires-4 : tie.Need-row-requires-4
 row-requires-4 c κs = search needs
 
-follows-requires : tie.Need-follows-requires
-follows-requires c κs = search needs
+is-trailing-requires : tie.Need-is-trailing-requires
+is-trailing-requires c κs = search needs
 
 returns : tie.Need-returns
 unfolding three
 returns c =
     let at-row2 = c .before .before .before .row2 in
     let at-row = c .before .before .before .before .row in
-    simp (← c .follows .ensures, ← c .before .row4 .ensures, ← c .before .before .row3 .ensures, ← at-row2 .ensures, ← at-row .ensures)
-    (ap (λ (any : Bool). any && c .follows .result) (any-of-four _ _ _ _))
+    simp (← c .is-trailing .ensures, ← c .before .row4 .ensures, ← c .before .before .row3 .ensures, ← at-row2 .ensures, ← at-row .ensures)
+    (ap (λ (any : Bool). any && c .is-trailing .result) (any-of-four _ _ _ _))
 
 pub three-spec : {M : Type 1} → statement M
 three-spec =
     tie.close
-    (tie.spec row-requires row-requires-2 row-requires-3 row-requires-4 follows-requires returns)
+    (tie.spec row-requires row-requires-2 row-requires-3 row-requires-4 is-trailing-requires returns)

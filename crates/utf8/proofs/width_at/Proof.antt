@@ -7,15 +7,15 @@ use Rattle.utf8.proofs.Width.{width-one, width-two, width-three, width-
 use Rattle.utf8.proofs.width_at.Statement.{statement}
 use Rattle.utf8.proofs.width_at.Tie as tie
 
-byte-before-requires : tie.Need-byte-before-requires
-byte-before-requires c κs = search needs
+byte-within-requires : tie.Need-byte-within-requires
+byte-within-requires c κs = search needs
 
 returns : tie.Need-returns
 unfolding one
-returns c = (width-one _ (c .before .byte-before .ensures) (le-leb _ _ (c .if1 .taken)), search needs)
+returns c = (width-one _ (c .before .byte-within .ensures) (le-leb _ _ (c .if1 .taken)), search needs)
 
-byte-before-requires-2 : tie.Need-byte-before-requires-2
-byte-before-requires-2 c κs = search needs
+byte-within-requires-2 : tie.Need-byte-within-requires-2
+byte-within-requires-2 c κs = search needs
 
 two-requires : tie.Need-two-requires
 two-requires c κs = search needs
@@ -27,10 +27,10 @@ returns-2 c =
     let second = two .before in
     let first = second .before .before in
     let not-one = lt-leb _ _ (second .before .if1 .left) in
-    (width-two _ (first .byte-before .ensures) (second .byte-before2 .ensures) not-one (sym (two .two .ensures) ∙ c .if2 .taken), search needs)
+    (width-two _ (first .byte-within .ensures) (second .byte-within2 .ensures) not-one (sym (two .two .ensures) ∙ c .if2 .taken), search needs)
 
-byte-before-requires-3 : tie.Need-byte-before-requires-3
-byte-before-requires-3 c κs = search needs
+byte-within-requires-3 : tie.Need-byte-within-requires-3
+byte-within-requires-3 c κs = search needs
 
 three-requires : tie.Need-three-requires
 three-requires c κs = search needs
@@ -46,10 +46,10 @@ returns-3 c =
     let not-one = lt-leb _ _ (second .before .if1 .left) in
     let not-two = sym (two .two .ensures) ∙ third .before .if2 .left in
     let is-three = sym (three .three .ensures) ∙ c .if3 .taken in
-    (width-three _ (first .byte-before .ensures) (second .byte-before2 .ensures) not-one (third .byte-before3 .ensures) not-two is-three, search needs)
+    (width-three _ (first .byte-within .ensures) (second .byte-within2 .ensures) not-one (third .byte-within3 .ensures) not-two is-three, search needs)
 
-byte-before-requires-4 : tie.Need-byte-before-requires-4
-byte-before-requires-4 c κs = search needs
+byte-within-requires-4 : tie.Need-byte-within-requires-4
+byte-within-requires-4 c κs = search needs
 
 four-requires : tie.Need-four-requires
 four-requires c κs = search needs
@@ -68,8 +68,8 @@ returns-4 c =
     let not-two = sym (two .two .ensures) ∙ third .before .if2 .left in
     let not-three = sym (three .three .ensures) ∙ fourth .before .if3 .left in
     let is-four = sym (four .four .ensures) ∙ c .if4 .taken in
-    let tried = width-four _ (first .byte-before .ensures) (second .byte-before2 .ensures) not-one (third .byte-before3 .ensures) not-two in
-    (tried (fourth .byte-before4 .ensures) not-three is-four, search needs)
+    let tried = width-four _ (first .byte-within .ensures) (second .byte-within2 .ensures) not-one (third .byte-within3 .ensures) not-two in
+    (tried (fourth .byte-within4 .ensures) not-three is-four, search needs)
 
 returns-5 : tie.Need-returns-5
 unfolding one
@@ -85,22 +85,22 @@ returns-5 c =
     let not-two = sym (two .two .ensures) ∙ third .before .if2 .left in
     let not-three = sym (three .three .ensures) ∙ fourth .before .if3 .left in
     let not-four = sym (four .four .ensures) ∙ c .if4 .left in
-    let tried = width-none _ (first .byte-before .ensures) (second .byte-before2 .ensures) not-one (third .byte-before3 .ensures) not-two in
-    (tried (fourth .byte-before4 .ensures) not-three not-four, search needs)
+    let tried = width-none _ (first .byte-within .ensures) (second .byte-within2 .ensures) not-one (third .byte-within3 .ensures) not-two in
+    (tried (fourth .byte-within4 .ensures) not-three not-four, search needs)
 
 pub width-at-spec : {M : Type 1} → statement M
 width-at-spec =
     tie.close
     (tie.spec
-    byte-before-requires
+    byte-within-requires
     returns
-    byte-before-requires-2
+    byte-within-requires-2
     two-requires
     returns-2
-    byte-before-requires-3
+    byte-within-requires-3
     three-requires
     returns-3
-    byte-before-requires-4
+    byte-within-requires-4
     four-requires
     returns-4
     returns-5)
