@@ -11,7 +11,7 @@ use lib.Seq.{slice}
 use borrow.Author.Tests.{ltb-false, not-false}
 use Rattle.utf8.specs.Utf8.{Utf8}
 use Rattle.utf8.proofs.Utf8.{utf8?}
-use Rattle.texts.specs.Table.{mostMessages, tableMost, headerWidth}
+use Rattle.texts.specs.Table.{mostMessages, mostBytes, headerWidth}
 use Rattle.lines.specs.Lines.{lines, firstLine}
 use Rattle.lines.specs.Table.{tableOf, Room}
 use Rattle.lines.specs.Made.{madeAfter, madeOf, made, bytesOf}
@@ -38,7 +38,7 @@ made-some text h = rw (lines-some text (omega arith))
 module _ (text : List ℕ) (at end count bytes : ℕ) (some : at < length text) (ends : end ≡ at + length (firstLine (drop at text))) where
   pub turn : madeAfter count bytes (lines (drop at text))
       ≡ cond (ltb mostMessages (count + 1)) (Bad TooMany (count + 1))
-      (cond (ltb tableMost (headerWidth (count + 1) + bytes + (end - at))) (Bad TooLong (count + 1))
+      (cond (ltb mostBytes (headerWidth (count + 1) + bytes + (end - at))) (Bad TooLong (count + 1))
       (cond (not (decide (utf8? (slice at end text)))) (Bad NotUtf8 (count + 1))
       (madeAfter (count + 1) (bytes + (end - at)) (lines (drop (end + 1) text)))))
   unfolding madeAfter
@@ -56,7 +56,7 @@ pub record Whole (count bytes : ℕ) (messages : List (List ℕ)) (n m : ℕ) : 
   pub counts : n ≡ count + length messages
   pub long : m ≡ headerWidth n + bytes + length (flatten messages)
   pub most : n ≤ mostMessages
-  pub short : m ≤ tableMost
+  pub short : m ≤ mostBytes
   pub each : (i : ℕ) → i < length messages → Utf8 (getD messages i [])
 
 -- the first of three tests that says yes is the fault
@@ -67,7 +67,7 @@ three-no false true c x y z line r n m e = absurd (let k : _≡_ {A = ℕ} 0 1 =
 three-no false false true x y z line r n m e = absurd (let k : _≡_ {A = ℕ} 0 1 = cc in omega arith)
 three-no false false false x y z line r n m e = (refl, refl, refl, e)
 
-pub whole : (messages : List (List ℕ)) (count bytes n m : ℕ) → count ≤ mostMessages → headerWidth count + bytes ≤ tableMost
+pub whole : (messages : List (List ℕ)) (count bytes n m : ℕ) → count ≤ mostMessages → headerWidth count + bytes ≤ mostBytes
     → madeAfter count bytes messages ≡ Table n m → Whole count bytes messages n m
 unfolding madeAfter flatten
 whole [] count bytes n m l h e =
@@ -76,10 +76,10 @@ whole [] count bytes n m l h e =
     record { counts = omega arith; long = omega arith; most = omega arith; short = omega arith; each = λ i k. absurd (omega arith) }
 whole (line ∷ rest) count bytes n m l h e =
     let t =
-    three-no (ltb mostMessages (count + 1)) (ltb tableMost (headerWidth (count + 1) + bytes + length line)) (not (decide (utf8? line))) TooMany TooLong NotUtf8
+    three-no (ltb mostMessages (count + 1)) (ltb mostBytes (headerWidth (count + 1) + bytes + length line)) (not (decide (utf8? line))) TooMany TooLong NotUtf8
     (count + 1) (madeAfter (count + 1) (bytes + length line) rest) n m e in
     let room = ltb-false mostMessages (count + 1) (t .0) in
-    let fits = ltb-false tableMost (headerWidth (count + 1) + bytes + length line) (t .1) in
+    let fits = ltb-false mostBytes (headerWidth (count + 1) + bytes + length line) (t .1) in
     let w = whole rest (count + 1) (bytes + length line) n m (omega arith) (omega arith) (t .3) in
     let bytes-too = length-append line (flatten rest) in
     record {
@@ -105,15 +105,15 @@ unfolding madeOf
 table-some [] n m e = absurd (let k : _≡_ {A = ℕ} 0 1 = cc in omega arith)
 table-some (line ∷ rest) n m e = omega arith
 
-pub table-short : (messages : List (List ℕ)) (n m : ℕ) → madeOf messages ≡ Table n m → m ≤ tableMost
+pub table-short : (messages : List (List ℕ)) (n m : ℕ) → madeOf messages ≡ Table n m → m ≤ mostBytes
 table-short messages n m e = table-whole messages n m e .short
 
-pub table-room : (messages : List (List ℕ)) (n m room : ℕ) → tableMost ≤ room → madeOf messages ≡ Table n m → Room messages n room
+pub table-room : (messages : List (List ℕ)) (n m room : ℕ) → mostBytes ≤ room → madeOf messages ≡ Table n m → Room messages n room
 table-room messages n m room h e =
     let w = table-whole messages n m e in
     record { counts = omega (arith, w .counts); short = omega (arith, w .long, w .short); fits = omega (arith, w .long, w .short) }
 
-table-fits : (messages : List (List ℕ)) (n m : ℕ) → madeOf messages ≡ Table n m → length (tableOf messages) ≤ tableMost
+table-fits : (messages : List (List ℕ)) (n m : ℕ) → madeOf messages ≡ Table n m → length (tableOf messages) ≤ mostBytes
 table-fits messages n m e =
     let long = table-length messages in
     let w = table-whole messages n m e in
@@ -129,11 +129,11 @@ unfolding bytesOf
 bytes-bad messages fault line e = rw e
 
 -- what is written fits, so that the buffer keeps its length
-pub buffer-kept : (messages : List (List ℕ)) (l : List ℕ) → length l ≡ tableMost
-    → length (written l 0 (bytesOf (madeOf messages) messages)) ≡ tableMost
+pub buffer-kept : (messages : List (List ℕ)) (l : List ℕ) → length l ≡ mostBytes
+    → length (written l 0 (bytesOf (madeOf messages) messages)) ≡ mostBytes
 unfolding bytesOf
 buffer-kept messages l h = go (madeOf messages) refl
   where
-    go : (m : Made) → madeOf messages ≡ m → length (written l 0 (bytesOf (madeOf messages) messages)) ≡ tableMost
+    go : (m : Made) → madeOf messages ≡ m → length (written l 0 (bytesOf (madeOf messages) messages)) ≡ mostBytes
     go (Table n m) e = let fits = table-fits messages n m e in rw e (length-written l 0 (tableOf messages) (omega arith) ∙ h)
     go (Bad fault line) e = rw e (ap length (written-nil l 0) ∙ h)

@@ -13,7 +13,7 @@ use contract.Lifetimes.{Lfts}
 use Rattle.utf8.specs.Utf8.{Utf8}
 use Rattle.utf8.proofs.Utf8.{utf8?}
 use Rattle.layout.specs.Layout.{written}
-use Rattle.texts.specs.Table.{mostMessages, tableMost, headerWidth}
+use Rattle.texts.specs.Table.{mostMessages, mostBytes, headerWidth}
 use Rattle.lines.specs.Lines.{lines}
 use Rattle.lines.specs.Table.{tableOf}
 use Rattle.lines.specs.Made.{madeAfter, madeOf}
@@ -26,7 +26,7 @@ use Rattle.lines.proofs.make.Reads as making
 
 -- ---- no fault is found
 no-fault : (messages : List (List ℕ)) (count bytes : ℕ) → count + length messages ≤ mostMessages
-    → headerWidth (count + length messages) + bytes + length (flatten messages) ≤ tableMost
+    → headerWidth (count + length messages) + bytes + length (flatten messages) ≤ mostBytes
     → ((i : ℕ) → i < length messages → Utf8 (getD messages i []))
     → madeAfter count bytes messages ≡ Table (count + length messages) (headerWidth (count + length messages) + bytes + length (flatten messages))
 unfolding madeAfter flatten
@@ -34,7 +34,7 @@ no-fault [] count bytes l h u = ap₂ Table (omega arith) (omega arith)
 no-fault (message ∷ messages) count bytes l h u =
     let n = length-append message (flatten messages) in
     let well = decide-iff (utf8? message) .1 (u 0 (omega arith)) in
-    rw (le-ltb mostMessages (count + 1) (omega arith), le-ltb tableMost (headerWidth (count + 1) + bytes + length message) (omega arith), well)
+    rw (le-ltb mostMessages (count + 1) (omega arith), le-ltb mostBytes (headerWidth (count + 1) + bytes + length message) (omega arith), well)
     (no-fault messages (count + 1) (bytes + length message) (omega arith) (omega arith) (λ i k. u (suc i) (omega arith))
     ∙ ap₂ Table (omega arith) (omega arith))
 

@@ -22,10 +22,6 @@ module _ (text : List ℕ) (at end : ℕ) (some : at < length text) (ends : end 
   unfolding offsets
   offsets-turn offset = let n : length (firstLine (drop at text)) ≡ end - at = omega arith in rw (lines-at text at some end ends, n)
 
-pub bytes-past : (text : List ℕ) (at : ℕ) → length text ≤ at → length (flatten (lines (drop at text))) ≡ 0
-unfolding flatten
-bytes-past text at h = rw (lines-past text at h)
-
 pub offsets-past : (text : List ℕ) (at offset : ℕ) → length text ≤ at → offsets offset (lines (drop at text)) ≡ u16Bytes offset
 unfolding offsets
 offsets-past text at offset h = rw (lines-past text at h)

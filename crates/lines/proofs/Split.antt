@@ -28,7 +28,7 @@ pub lines-none : lines [] ≡ []
 unfolding lines
 lines-none = refl
 
-pub lines-first : (byte : ℕ) (text : List ℕ)
+lines-first : (byte : ℕ) (text : List ℕ)
     → lines (byte ∷ text) ≡ firstLine (byte ∷ text) ∷ lines (drop (suc (length (firstLine (byte ∷ text)))) (byte ∷ text))
 unfolding lines firstLine onto
 lines-first byte [] = go (eqb byte lineEnd)

@@ -5,7 +5,7 @@ use mathlib.Core.List.{List, [], _∷_}
 use lib.Dec.{ltb}
 use lib.ListN.{length}
 use Rattle.utf8.proofs.Utf8.{utf8?}
-use Rattle.texts.specs.Table.{mostMessages, tableMost, headerWidth}
+use Rattle.texts.specs.Table.{mostMessages, mostBytes, headerWidth}
 use Rattle.lines.specs.Lines.{lines}
 use Rattle.lines.specs.Table.{tableOf}
 use Rattle.lines.specs.declared.Fault.the-variants.{NoLine, TooMany, TooLong, NotUtf8}
@@ -17,7 +17,7 @@ unfoldable pub madeAfter : ℕ → ℕ → List (List ℕ) → Made
 madeAfter count bytes [] = Table count (headerWidth count + bytes)
 madeAfter count bytes (line ∷ rest) =
     cond (ltb mostMessages (count + 1)) (Bad TooMany (count + 1))
-    (cond (ltb tableMost (headerWidth (count + 1) + bytes + length line)) (Bad TooLong (count + 1))
+    (cond (ltb mostBytes (headerWidth (count + 1) + bytes + length line)) (Bad TooLong (count + 1))
     (cond (not (decide (utf8? line))) (Bad NotUtf8 (count + 1))
     (madeAfter (count + 1) (bytes + length line) rest)))
 

@@ -6,7 +6,7 @@ use mathlib.Core.Bool.{true}
 use mathlib.Core.List.{List, [], flatten}
 use lib.ListN.{length, getD, take}
 use Rattle.utf8.specs.Utf8.{Utf8}
-use Rattle.texts.specs.Table.{mostMessages, tableMost, headerWidth, count, message, tableGood}
+use Rattle.texts.specs.Table.{mostMessages, mostBytes, headerWidth, count, message, tableGood}
 use Rattle.lines.specs.declared.Made.{Made}
 use Rattle.lines.specs.declared.Made.the-variants.{Table}
 
@@ -19,7 +19,7 @@ module _ (messages : List (List ℕ)) where
   pub record Fitting : Type 0 where
     pub some : 1 ≤ length messages
     pub most : length messages ≤ mostMessages
-    pub short : tableLength ≤ tableMost
+    pub short : tableLength ≤ mostBytes
     pub utf8 : (i : ℕ) → i < length messages → Utf8 (getD messages i [])
 
   -- a good table of just these messages

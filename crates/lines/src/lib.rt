@@ -4,12 +4,12 @@ ghost use mathlib.Core.List.{flatten};
 ghost use Prim.Native.Nat.{_+_, _≤_};
 ghost use lib.ListN.{length, drop};
 ghost use Rattle.layout.specs.Layout.{written};
-ghost use Rattle.texts.specs.Table.{tableMost};
+ghost use Rattle.texts.specs.Table.{mostBytes};
 ghost use Rattle.lines.specs.Lines.{lines, firstLine};
 ghost use Rattle.lines.specs.Table.{offsets, tableOf, Room};
 ghost use Rattle.lines.specs.Made.{made, bytesOf};
+use texts::MOST_BYTES;
 use texts::MOST_MESSAGES;
-use texts::TABLE_MOST;
 
 const LINE_END: u8 = b'\n';
 
@@ -63,7 +63,7 @@ fn judge(text: &[u8]) -> Made
         if MOST_MESSAGES < line {
             return Made::Bad(Fault::TooMany, line);
         }
-        if TABLE_MOST < texts::header_width(line) + bytes + (end - at) {
+        if MOST_BYTES < texts::header_width(line) + bytes + (end - at) {
             return Made::Bad(Fault::TooLong, line);
         }
         if !utf8::is_utf8(text, at, end) {
@@ -78,7 +78,7 @@ fn judge(text: &[u8]) -> Made
 
 // Writes the offset of each message behind the count, the first as given, and the end of the last.
 fn put_offsets(text: &[u8], first: usize, table: &mut [u8])
-    requires { ⌜ (first + length (flatten (lines (now text))) ≤ tableMost) × (2 + length (offsets first (lines (now text))) ≤ length (now table)) ⌝ }
+    requires { ⌜ (first + length (flatten (lines (now text))) ≤ mostBytes) × (2 + length (offsets first (lines (now text))) ≤ length (now table)) ⌝ }
     ensures { λ _. ⌜ now (table .exit) ≡ written (now (table .entry)) 2 (offsets first (lines (now (text .entry)))) ⌝ }
 {
     let mut offset = first;
@@ -122,7 +122,7 @@ fn put_table(text: &[u8], count: usize, table: &mut [u8])
 }
 
 // Makes the table of the text's lines at the start of `table`, or finds the first fault and writes nothing.
-pub fn make(text: &[u8], table: &mut [u8; TABLE_MOST]) -> Made
+pub fn make(text: &[u8], table: &mut [u8; MOST_BYTES]) -> Made
     ensures made { λ r. ⌜ r ≡ made (now (text .entry)) ⌝ }
     ensures table { λ _. ⌜ now (table .exit) ≡ written (now (table .entry)) 0 (bytesOf (made (now (text .entry))) (lines (now (text .entry)))) ⌝ }
 {

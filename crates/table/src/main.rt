@@ -5,7 +5,7 @@ use libc::STDIN_FILENO;
 use libc::STDOUT_FILENO;
 use lines::Fault;
 use lines::Made;
-use texts::TABLE_MOST;
+use texts::MOST_BYTES;
 
 fn tell(fault: Fault, line: usize) {
     io::write_all(STDERR_FILENO, b"table: line ");
@@ -32,7 +32,7 @@ fn main() {
     // longer than the lines of any table, so that a cut input is never taken for a whole one
     let mut text = io::large_buffer();
     let n = io::read_full(STDIN_FILENO, &mut text);
-    let mut table = [0u8; TABLE_MOST];
+    let mut table = [0u8; MOST_BYTES];
     match lines::make(&text[..n], &mut table) {
         Made::Table(_, length) => {
             io::write_all(STDOUT_FILENO, &table[..length]);

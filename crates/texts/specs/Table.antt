@@ -1,4 +1,4 @@
--- A table of texts: the count of its messages and their offsets, each a u16, then the messages in UTF-8.
+-- A table of texts: the count of its messages and their offsets, each a u16 with its low byte first, then the messages in UTF-8.
 use Prim.Native.Nat.{ℕ, _+_, _*_}
 use mathlib.Core.Bool.{Bool, _&&_, decide}
 use mathlib.Core.List.{List}
@@ -13,8 +13,8 @@ abbrev pub mostMessages : ℕ
 mostMessages = 64
 
 -- the longest table: a u16 offset says where it ends
-abbrev pub tableMost : ℕ
-tableMost = 65535
+abbrev pub mostBytes : ℕ
+mostBytes = 65535
 
 -- the count, then one offset more than messages
 abbrev pub headerWidth : ℕ → ℕ

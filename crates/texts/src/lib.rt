@@ -1,6 +1,6 @@
 // Texts in two languages: the part of a lent table that a message number and a language choose.
 ghost use mathlib.Core.Path.{_≡_};
-ghost use Prim.Native.Nat.{_+_, _*_, _^_, _≤_, _<_};
+ghost use Prim.Native.Nat.{_^_, _≤_, _<_};
 ghost use denote.Ref.{ptr};
 ghost use Rattle.numbers.specs.All.{allBelow};
 ghost use Rattle.texts.specs.Table.{headerWidth, count, offset, headerGood, messageGood, tableGood};
@@ -16,14 +16,14 @@ pub struct Place {
 }
 
 // The longest table: a u16 offset says where it ends.
-pub const TABLE_MOST: usize = 65535;
+pub const MOST_BYTES: usize = 65535;
 
 pub const MOST_MESSAGES: usize = 64;
 
 // The count, then one offset more than messages.
 pub fn header_width(messages: usize) -> usize
     requires { ⌜ messages ≤ 65535 ⌝ }
-    ensures { λ r. ⌜ (r ≡ headerWidth messages) × (r ≤ 4 + 2 * messages) ⌝ }
+    ensures { λ r. ⌜ r ≡ headerWidth messages ⌝ }
 {
     2 + 2 * (messages + 1)
 }

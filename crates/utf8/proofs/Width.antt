@@ -10,7 +10,6 @@ use lib.ListN.{length, getD, drop, List·getD-eq-default}
 use lib.Seq.{drop-cons}
 use borrow.Author.Tests.{lt-leb, leb-true}
 use Rattle.numbers.proofs.Tests.{le-or-lt}
-use Rattle.numbers.proofs.Choice.{most-iff}
 use Rattle.utf8.specs.Utf8.{Scalar, trailing, encoding}
 use Rattle.utf8.specs.Rows.{row, one, two, three, four, width}
 use Rattle.utf8.proofs.Encoding.{
@@ -77,10 +76,6 @@ width-some v = go (sized v)
     go (in-two l h e) = rw e (omega arith)
     go (in-three l h e) = rw e (omega arith)
     go (in-four l e) = rw e (omega arith)
-
-pub width-most : (bytes : List ℕ) → width bytes ≤ 4
-unfolding width
-width-most bytes = simp most-iff (omega arith)
 
 -- ---- the encoding with which bytes begin
 pub record Begins (bytes : List ℕ) (w : ℕ) : Type 0 where

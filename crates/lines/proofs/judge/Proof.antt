@@ -8,7 +8,7 @@ use borrow.Author.Needs.{needs}
 use borrow.Author.Tests.{lt-ltb, le-ltb, not-true, not-false}
 use Rattle.numbers.proofs.Tests.{decided}
 use Rattle.utf8.proofs.Utf8.{utf8?}
-use Rattle.texts.specs.Table.{mostMessages, tableMost, headerWidth}
+use Rattle.texts.specs.Table.{mostMessages, mostBytes, headerWidth}
 use Rattle.lines.specs.Lines.{lines}
 use Rattle.lines.specs.Made.{madeAfter, made}
 use Rattle.lines.proofs.Judged.{made-none, made-some, turn, ended}
@@ -17,7 +17,7 @@ use Rattle.lines.proofs.judge.Tie as tie
 
 abbrev Inv-loop : tie.InvT-loop
 Inv-loop text count₀ bytes₀ at₀ count bytes at =
-    (count ≤ mostMessages) × (headerWidth count + bytes ≤ tableMost) × (made text ≡ madeAfter count bytes (lines (drop at text)))
+    (count ≤ mostMessages) × (headerWidth count + bytes ≤ mostBytes) × (made text ≡ madeAfter count bytes (lines (drop at text)))
 
 abbrev μ-loop : tie.MeasureT-loop
 μ-loop text count₀ bytes₀ at₀ count bytes at = length text - at
@@ -62,7 +62,7 @@ returns-3 c =
     let head = inside .before .loop in
     let text = inside .before .before .before .before .args .text .now in
     let on = turn text (head .at) (at-end .line-end .result) (head .count) (head .bytes) (inside .loop-test .taken) (at-end .line-end .ensures .0) in
-    let over = rw (c .before .header-width .ensures .0) at (c .if3 .taken) in
+    let over = rw (c .before .header-width .ensures) at (c .if3 .taken) in
     sym (head .inv .2 ∙ on ∙ rw (le-ltb _ _ (c .before .before .if2 .left), lt-ltb _ _ over))
 
 is-utf8-requires : tie.Need-is-utf8-requires Inv-loop μ-loop
@@ -76,7 +76,7 @@ returns-4 c =
     let text = inside .before .before .before .before .args .text .now in
     let on = turn text (head .at) (at-end .line-end .result) (head .count) (head .bytes) (inside .loop-test .taken) (at-end .line-end .ensures .0) in
     let at-width = c .before .before .before in
-    let fits = rw (at-width .header-width .ensures .0) at (c .before .before .if3 .left) in
+    let fits = rw (at-width .header-width .ensures) at (c .before .before .if3 .left) in
     let bad = sym (decided (utf8? _) _ (c .before .is-utf8 .ensures)) ∙ not-true _ (c .if4 .taken) in
     sym (head .inv .2 ∙ on ∙ rw (le-ltb _ _ (at-width .before .if2 .left), le-ltb _ _ fits, bad))
 
@@ -100,7 +100,7 @@ loop-again c =
     let text = inside .before .before .before .before .args .text .now in
     let on = turn text (head .at) (at-end .line-end .result) (head .count) (head .bytes) (inside .loop-test .taken) (at-end .line-end .ensures .0) in
     let at-width = c .before .before .before in
-    let fits = rw (at-width .header-width .ensures .0) at (c .before .before .if3 .left) in
+    let fits = rw (at-width .header-width .ensures) at (c .before .before .if3 .left) in
     let good = sym (decided (utf8? _) _ (c .before .is-utf8 .ensures)) ∙ not-false _ (c .if4 .left) in
     (at-width .before .if2 .left, omega arith, head .inv .2 ∙ on ∙ rw (le-ltb _ _ (at-width .before .if2 .left), le-ltb _ _ fits, good))
 
@@ -115,7 +115,7 @@ returns-5 c =
     let at-args = c .before .before .before .before .before .args in
     let head = c .before .before .loop in
     let text = at-args .text .now in
-    rw (c .header-width2 .ensures .0) (sym (head .inv .2 ∙ ended text (head .at) (head .count) (head .bytes) (c .before .loop-test .left)))
+    rw (c .header-width2 .ensures) (sym (head .inv .2 ∙ ended text (head .at) (head .count) (head .bytes) (c .before .loop-test .left)))
 
 pub judge-spec : {M : Type 1} → statement M
 judge-spec =

@@ -7,7 +7,7 @@ use native.Mathlib.Omega.{arith}
 use lib.ListN.{length, drop}
 use Rattle.layout.specs.Layout.{u16Bytes, written}
 use Rattle.layout.proofs.Written.{written-append}
-use Rattle.texts.specs.Table.{tableMost}
+use Rattle.texts.specs.Table.{mostBytes}
 use Rattle.lines.specs.Lines.{lines}
 use Rattle.lines.specs.Table.{offsets}
 use Rattle.lines.proofs.Offsets.{bytes-turn, offsets-turn, offsets-past, offsets-some}
@@ -17,7 +17,7 @@ use Rattle.lines.proofs.put_offsets.Tie as tie
 abbrev Inv-loop : tie.InvT-loop
 Inv-loop text first table₀ offset₀ place₀ at₀ table offset place at =
     (length table ≡ length table₀)
-    × (offset + length (flatten (lines (drop at text))) ≤ tableMost)
+    × (offset + length (flatten (lines (drop at text))) ≤ mostBytes)
     × (place + length (offsets offset (lines (drop at text))) ≤ length table)
     × (written table place (offsets offset (lines (drop at text))) ≡ written table₀ 2 (offsets first (lines text)))
 

@@ -22,7 +22,7 @@ put-offsets-requires c κs =
     let start = width .before .before .before in
     let text = start .args .text .now in
     let long = offsets-length (lines text) (width .header-width .result) in
-    omega (arith, width .header-width .ensures .0, put .put-u16 .kept .0, start .pre)
+    omega (arith, width .header-width .ensures, put .put-u16 .kept .0, start .pre)
 
 put-messages-requires : tie.Need-put-messages-requires
 put-messages-requires c κs = search needs
@@ -37,7 +37,7 @@ returns c =
     let put = middle .before .before .before .before in
     let width = put .before .before in
     let start = width .before .before .before in
-    let header = width .header-width .ensures .0 in
+    let header = width .header-width .ensures in
     table-written _ _ _ _ _ _ _ (start .pre) header (put .put-u16 .ensures) (middle .put-offsets .ensures) (last .put-messages .ensures)
 
 pub put-table-spec : {M : Type 1} → statement M

@@ -29,7 +29,7 @@ returns : tie.Need-returns
 unfolding headerGood
 returns c =
     let count = c .before .before .before .count in
-    simp (← c .header-width .ensures .0, ← c .before .offset2 .ensures, ← c .before .before .offset .ensures, ← count .ensures)
+    simp (← c .header-width .ensures, ← c .before .offset2 .ensures, ← c .before .before .offset .ensures, ← count .ensures)
 
 pub header-good-spec : {M : Type 1} → statement M
 header-good-spec =
