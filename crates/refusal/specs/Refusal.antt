@@ -1,4 +1,5 @@
--- The numbers of refusal, as the paper's table has them and from 15 on the request that brings them; 0 is none. When each is given stands with the call that gives it.
+-- The numbers of refusal, as the paper's table has them and from 15 on the request that brings them; 0 is none.
+-- When each is given stands with the call that gives it.
 use Prim.Native.Nat.{ℕ}
 use mathlib.Core.Bool.{cond}
 use lib.Dec.{eqb}

@@ -10,7 +10,9 @@ use Rattle.texts.specs.Text.{chosen}
 use Rattle.texts.proofs.Answers.{answer}
 use Rattle.texts.proofs.text.Reads as telling
 
-module _ (κs : Lfts 2) (first second language number refusal : _) (x s : _) (post : telling.Post κs (first, (second, (language, (number, (refusal, tt))))) x s) where
+module _
+    (κs : Lfts 2) (first second language number refusal : _) (x s : _)
+    (post : telling.Post κs (first, (second, (language, (number, (refusal, tt))))) x s) where
   pub answer-utf8 : Utf8 (now x)
   answer-utf8 = rw (post .0) (answer _ _ _ .utf8)
 
