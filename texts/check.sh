@@ -25,6 +25,31 @@ for file in texts/slovak.txt texts/english.txt; do
     LC_ALL=C sed $'s/[\x80-\xbf]//g' "$file" | LC_ALL=C grep -n '.\{79\}' && miss "$file: a line of more than 78 characters"
 done
 
+# ---- the numbers: what README.md says a message is about gives its number by the header's constants, and its line begins with its name
+constant() { sed -n "s|^    FOLDHARBOR_TEXT$1 = \([0-9]*\),* */\*.*|\1|p" host/foldharbor.h; }
+[ "$(constant S)" = "$lines" ] || miss "FOLDHARBOR_TEXTS is not $lines"
+begins() {
+    [[ $(sed -n "$(($2 + 1))p" "texts/$1.txt") == "$3:"* ]] || miss "message $2 of $1.txt does not begin with $3"
+}
+# what README.md calls it, and what the header does
+groups=("kind:_ONE_TIME_PROMPT" "cause bit:_CAUSE" "mark bit:_MARK" "code:_CODE" "mode:_MODE" "refusal:_REFUSAL")
+while IFS='|' read -r _ number _ from _; do
+    number=${number// /}
+    k=
+    for group in "${groups[@]}"; do
+        [[ $from =~ ${group%:*}\ ([0-9]+) ]] || continue
+        k=${BASH_REMATCH[1]}
+        first=$(constant "${group#*:}")
+        [ -n "$first" ] && [ "$number" = $((first + k)) ] || miss "message $number is not FOLDHARBOR_TEXT${group#*:} + $k"
+        break
+    done
+    [ -n "$k" ] || miss "README.md does not say of what in an answer message $number is"
+    case $from in
+        *refusal*) begins english "$number" "Refusal $k"; begins slovak "$number" "Odmietnutie $k" ;;
+        *cause*) for language in english slovak; do begins $language "$number" "$(echo "${from%%,*}" | tr -d ' ')"; done ;;
+    esac
+done < <(grep '^| [0-9]* |' texts/README.md)
+
 # ---- every message read back from its table, to the byte
 for language in slovak english; do
     program table <texts/$language.txt >"$room/$language" || miss "table fails on $language.txt"
@@ -35,6 +60,14 @@ for number in $(seq 0 $((lines - 1))); do
         sed -n "$((number + 1))p" "texts/${language#*:}.txt" | cmp -s - "$room/one" || miss "message $number of ${language#*:} is not its line"
     done
 done
+
+program messages "$room/slovak" "$room/english" >"$room/rows"
+[ "$(wc -l <"$room/rows")" = "$lines" ] || miss "messages does not print a row for each message"
+pasted=$(sed -n 's/^    \([ 0-9][0-9]  .*\)/\1/p' README.md)
+[ -n "$pasted" ] || miss "no row of messages in the root's README.md"
+while IFS= read -r row; do
+    grep -qxF -e "$row" "$room/rows" || miss "the root's README.md has a row that messages does not print: $row"
+done <<<"$pasted"
 
 example=$(sed -n 's/^    \(02 00 .*\)/\1/p' texts/README.md | tr -d ' ')
 [ "$(printf 'á\nok\n' | program table | od -An -v -tx1 | tr -d ' \n')" = "$example" ] || miss "the example in README.md is not what table makes"
@@ -77,8 +110,17 @@ as 65530 | faulty 1 "the table would be longer than 65535 bytes"
 as 70000 | faulty 1 "the table would be longer than 65535 bytes"
 [ "$(as 65529 | program table | wc -c)" = 65535 ] || miss "a table of 65535 bytes is not made"
 [ "$(seq 64 | program table | wc -c)" = $((2 + 2 * 65 + 9 + 2 * 55)) ] || miss "a table of 64 messages is not made"
+[ "$(program table <texts/slovak.txt 2>&1 >/dev/full)" = "table: standard output: No space left on device" ] || miss "not told: a table that can't be written"
+
+# ---- table.sh: bad lines, lines that are not there, a table that can't be written
 printf 'b\xff' >"$room/bad"
 echo kept >"$room/kept"
-bash texts/table.sh "$room/bad" "$room/kept" 2>/dev/null && miss "table.sh does not end with 1"
-[ "$(cat "$room/kept")" = kept ] || miss "table.sh writes where the lines are bad"
+for lines in bad none; do
+    bash texts/table.sh "$room/$lines" "$room/kept" 2>"$room/err" && miss "table.sh on $lines lines does not end with 1"
+    [ -s "$room/err" ] || miss "table.sh on $lines lines tells nothing"
+    [ "$(cat "$room/kept")" = kept ] || miss "table.sh writes where there are $lines lines"
+done
+bash texts/table.sh texts/slovak.txt /dev/full 2>"$room/err" && miss "table.sh does not end with 1 where TABLE can't be written"
+[ -s "$room/err" ] || miss "table.sh does not tell that TABLE can't be written"
+bash texts/table.sh texts/slovak.txt "$room/kept" && cmp -s "$room/slovak" "$room/kept" || miss "table.sh does not make the table"
 [ ! -e "$room/missed" ]

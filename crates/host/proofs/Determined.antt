@@ -1,10 +1,11 @@
--- The host calls' contracts determine what they return and every byte of the buffer: two outcomes that satisfy one are equal.
+-- The host calls' contracts determine what they return and every byte of the buffer: two outcomes that satisfy one are equal. And what a text's place is.
 -- `Post` is the contract as the check reads it off the source; `s .1 .1 .0` is the buffer, the third parameter, at exit.
 use mathlib.Core.Path.{_≡_}
 use denote.Ref.{now}
 use contract.Lifetimes.{Lfts}
 use Rattle.numbers.proofs.Alike.{alike}
 use Rattle.texts.specs.Text.{chosen}
+use Rattle.texts.proofs.Answers.{Answer, answer}
 use Rattle.host.proofs.foldharbor_run_exercise.Reads as calling
 use Rattle.host.proofs.foldharbor_text.Reads as telling
 
@@ -19,3 +20,8 @@ pub text-alone : (κs : Lfts 1) (first second first′ second′ language number
     → chosen language first second ≡ chosen language first′ second′
     → telling.Post κs (first, (second, (language, (number, tt)))) x s → telling.Post κs (first′, (second′, (language, (number, tt)))) y t → x ≡ y
 text-alone κs first second first′ second′ language number x y s t same p q = alike (rw same at p) q
+
+-- what it answers: for which reason it refuses, with zeros then, and else the message
+pub text-answer : (κs : Lfts 1) (first second language number : _) (x s : _)
+    → telling.Post κs (first, (second, (language, (number, tt)))) x s → Answer (now (chosen language first second)) language number x
+text-answer κs first second language number x s post = rw post (answer _ _ _)

@@ -1,4 +1,4 @@
--- Where the lines of a text fit, `make` returns and writes their table, which holds them; and where it makes a table, they fit.
+-- Of a text with a line for each message of a list that fits, `make` returns and writes a table that holds them; and where it makes a table, the lines fit.
 -- `Post` is the contract as the check reads it off the source; `s .1 .0` is the buffer, the second parameter, at exit.
 use Prim.Native.Nat.{ℕ, suc, _+_, _≤_, _<_}
 use native.Mathlib.Omega.{arith}
@@ -14,12 +14,13 @@ use Rattle.utf8.specs.Utf8.{Utf8}
 use Rattle.utf8.proofs.Utf8.{utf8?}
 use Rattle.layout.specs.Layout.{written}
 use Rattle.texts.specs.Table.{mostMessages, mostBytes, headerWidth}
-use Rattle.lines.specs.Lines.{lines}
+use Rattle.lines.specs.Lines.{lines, textOf}
 use Rattle.lines.specs.Table.{tableOf}
 use Rattle.lines.specs.Made.{madeAfter, madeOf}
-use Rattle.lines.specs.Making.{tableLength, Fitting, Makes}
+use Rattle.lines.specs.Making.{tableLength, Fitting, Unbroken, Makes}
 use Rattle.lines.specs.declared.Made.the-variants.{Table}
 use Rattle.lines.proofs.Judged.{bytes-table, table-some, table-whole}
+use Rattle.lines.proofs.Lines.{lines-unbroken, lines-text}
 use Rattle.lines.proofs.Offsets.{table-length}
 use Rattle.lines.proofs.Reading.{holds}
 use Rattle.lines.proofs.make.Reads as making
@@ -62,14 +63,17 @@ fitting-made messages n m e =
     }
 
 module _ (κs : Lfts 2) (text buffer : _) (r : _) (s : _) (post : making.Post κs (text, (buffer, tt)) r s) where
-  pub make-makes : Fitting (lines (now text)) → Makes (lines (now text)) r (now (s .1 .0))
-  make-makes fit =
-      let messages = lines (now text) in
-      let e = made-fitting messages fit in
-      let bytes = post .1 ∙ ap (written (now buffer) 0) (bytes-table messages _ _ e) in
+  -- whatever the text is whose lines they are
+  pub lines-make : (messages : List (List ℕ)) → Fitting messages → lines (now text) ≡ messages → Makes messages r (now (s .1 .0))
+  lines-make messages fit same =
+      let e = ap madeOf same ∙ made-fitting messages fit in
+      let bytes = post .1 ∙ ap (written (now buffer) 0) (bytes-table (lines (now text)) _ _ e ∙ ap tableOf same) in
       let start : take (tableLength messages) (now (s .1 .0)) ≡ tableOf messages =
       ap₂ take (sym (table-length messages)) bytes ∙ front (now buffer) (tableOf messages) in
       record { returned = post .0 ∙ e; holds = rw start (holds messages fit) }
 
-  pub made-fits : (count length : ℕ) → r ≡ Table count length → Fitting (lines (now text))
-  made-fits count length e = fitting-made (lines (now text)) count length (sym (post .0) ∙ e)
+  pub list-makes : (messages : List (List ℕ)) → Fitting messages → Unbroken messages → now text ≡ textOf messages → Makes messages r (now (s .1 .0))
+  list-makes messages fit unbroken is = lines-make messages fit (ap lines is ∙ lines-text messages unbroken)
+
+  pub made-fits : (count length : ℕ) → r ≡ Table count length → Fitting (lines (now text)) × Unbroken (lines (now text))
+  made-fits count length e = (fitting-made (lines (now text)) count length (sym (post .0) ∙ e), lines-unbroken (now text))

@@ -1,5 +1,5 @@
--- What making a table comes to: where the lines are 1 to 64 messages that fit, the table is good and its message i is line i, to the byte.
--- Proved of what `make` returns and writes, in proofs/Making.antt, with the converse: where a table is made, the lines fit.
+-- What making a table comes to: of every list of 1 to 64 messages that fit, a line each, a good table is made and its message i is the list's, to the byte.
+-- Proved of what `make` returns and writes, in proofs/Making.antt: `list-makes`, and `made-fits`, that a table is made of no other lines.
 use Prim.Native.Nat.{ℕ, _+_, _≤_, _<_}
 use mathlib.Core.Path.{_≡_}
 use mathlib.Core.Bool.{true}
@@ -7,6 +7,7 @@ use mathlib.Core.List.{List, [], flatten}
 use lib.ListN.{length, getD, take}
 use Rattle.utf8.specs.Utf8.{Utf8}
 use Rattle.texts.specs.Table.{mostMessages, mostBytes, headerWidth, count, message, tableGood}
+use Rattle.lines.specs.Lines.{lineEnd}
 use Rattle.lines.specs.declared.Made.{Made}
 use Rattle.lines.specs.declared.Made.the-variants.{Table}
 
@@ -21,6 +22,10 @@ module _ (messages : List (List ℕ)) where
     pub most : length messages ≤ mostMessages
     pub short : tableLength ≤ mostBytes
     pub utf8 : (i : ℕ) → i < length messages → Utf8 (getD messages i [])
+
+  -- no message has a line end in it, so that each can be a line
+  abbrev pub Unbroken : Type 0
+  Unbroken = (i k : ℕ) → i < length messages → k < length (getD messages i []) → getD (getD messages i []) k 0 ≡ lineEnd → ⊥
 
   -- a good table of just these messages
   pub record Holds (table : List ℕ) : Type 0 where

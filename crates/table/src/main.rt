@@ -1,5 +1,6 @@
 // Makes a table of texts of the lines on standard input, one message a line, and writes it to standard output.
 // A fault is told on standard error, in a line of its own with the number of the line, and nothing is written.
+// That the table can't be written is told there too.
 use libc::STDERR_FILENO;
 use libc::STDIN_FILENO;
 use libc::STDOUT_FILENO;
@@ -35,7 +36,9 @@ fn main() {
     let mut table = [0u8; MOST_BYTES];
     match lines::make(&text[..n], &mut table) {
         Made::Table(_, length) => {
-            io::write_all(STDOUT_FILENO, &table[..length]);
+            if !io::write_all(STDOUT_FILENO, &table[..length]) {
+                os::fail(b"table: standard output");
+            }
         }
         Made::Bad(fault, line) => tell(fault, line),
     }

@@ -48,6 +48,12 @@ slice-aggregate-write-all c =
 write-all-requires : tie.Need-write-all-requires
 write-all-requires c κs = search needs
 
+slice-aggregate-fail : tie.Need-slice-aggregate-fail
+slice-aggregate-fail c = search needs
+
+fail-requires : tie.Need-fail-requires
+fail-requires c κs = search needs
+
 enum-known-fault : tie.Need-enum-known-fault
 enum-known-fault c = search needs
 
@@ -59,6 +65,9 @@ returns c = search needs
 
 returns-2 : tie.Need-returns-2
 returns-2 c = search needs
+
+returns-3 : tie.Need-returns-3
+returns-3 c = search needs
 
 pub main-spec : {M : Type 1} → statement M
 main-spec =
@@ -74,7 +83,10 @@ main-spec =
     array-share-prefix-table
     slice-aggregate-write-all
     write-all-requires
+    slice-aggregate-fail
+    fail-requires
     enum-known-fault
     tell-requires
     returns
-    returns-2)
+    returns-2
+    returns-3)
