@@ -1,6 +1,7 @@
 #!/usr/bin/env bash
 # Runs one of the programs: bash program.sh NAME ARGUMENTS.. The first call proves and builds it; later ones only look whether something changed.
 set -eu
+[ $# -ge 1 ] || { echo "usage: bash program.sh NAME ARGUMENTS.." >&2; exit 2; }
 here=$(dirname "$0")
 name=$1
 shift

@@ -59,7 +59,7 @@ static void print_answer(const uint8_t *answer)
     if (marks & FOLDHARBOR_ONE_TIME_PROMPT)
         print_message(FOLDHARBOR_TEXT_ONE_TIME_PROMPT + (marks & FOLDHARBOR_ONE_TIME_KIND ? 1 : 0));
     printf("  valve %s, causes held: %u\n", causes != 0 ? "open" : "closed", answer[7]);
-    for (unsigned bit = 0; bit < 5; bit++)
+    for (unsigned bit = 0; bit < 8; bit++)
         if (causes >> bit & 1)
             print_message(FOLDHARBOR_TEXT_CAUSE + bit);
 }

@@ -87,7 +87,7 @@ uint32_t foldharbor_run_exercise(const uint8_t *exercise, size_t exercise_length
  *
  *   count       how many messages, 1 to 64
  *   offsets     count + 1 of them, from the table's first byte: message k is from offset k up to offset k + 1
- *   messages    in UTF-8, one right behind the other with nothing between them, no zero byte either
+ *   messages    in UTF-8, one right behind the other with nothing between them
  *
  * The first offset is the place just after the offsets, 4 + 2 * count. No offset is below the one before it, so a
  * message may be empty. The last offset is the table's length, so a table has 65,535 bytes at most. Each message is
@@ -110,7 +110,7 @@ enum {
 
 /* Where a text is in its table: from start up to end, which is the place behind its last byte. */
 typedef struct foldharbor_place {
-    uint8_t refusal; /* 0, or one of the numbers above; start and end are 0 then */
+    uint8_t refusal; /* 0 if accepted; else one of the numbers above, and start and end are 0 */
     uint16_t start;
     uint16_t end;
 } foldharbor_place;

@@ -3,7 +3,7 @@
  *
  * Strings are tried as the only message of a table: all of up to three bytes, of four those in the form of a
  * character and those at the edges of a byte's ranges, and random ones. Then whole tables: limits, every cut, every
- * number in a header, split characters, random ones, good and damaged.
+ * number in a header, split characters, each of 64 messages at fault, random ones, good and damaged.
  *
  * A table lies in two rooms at once that differ in the bytes around it, so that an answer that depends on bytes out
  * of the table shows. The other table is one of several that must have no influence.
@@ -524,6 +524,31 @@ static void compare_split_characters(void)
     }
 }
 
+/* Each message of the largest count in turn: ill-formed, then beginning behind its end. */
+static void compare_each_message(void)
+{
+    enum { COUNT = FOLDHARBOR_MOST_MESSAGES };
+    uint32_t start = header_bytes(COUNT);
+
+    table_length = start + COUNT;
+    write_half(table, COUNT);
+    memset(table + start, 'x', COUNT);
+    for (uint32_t k = 0; k <= COUNT; k++)
+        write_half(offset_place(k), start + k);
+    for (uint32_t k = 0; k < COUNT; k++) {
+        enum fault falling = k == 0 ? BAD_FIRST_OFFSET : FALLING_OFFSETS;
+
+        table[start + k] = 0xFF;
+        expect(fault_of(table, table_length) == ILL_FORMED, "the model on an ill-formed message");
+        compare_every_way();
+        table[start + k] = 'x';
+        write_half(offset_place(k), start + k + 2);
+        expect(fault_of(table, table_length) == falling, "the model on a falling offset");
+        compare_every_way();
+        write_half(offset_place(k), start + k);
+    }
+}
+
 static void add_to_half(uint8_t *place, int number)
 {
     write_half(place, read_half(place) + (uint32_t)number);
@@ -635,6 +660,7 @@ static void compare_strings(struct dice *dice)
 static void compare_tables(struct dice *dice)
 {
     compare_split_characters();
+    compare_each_message();
     compare_limits(dice);
     compare_lengths(dice);
     compare_header_numbers(dice);

@@ -9,15 +9,16 @@ use Rattle.texts.proofs.Answers.{Answer, answer}
 use Rattle.host.proofs.foldharbor_run_exercise.Reads as calling
 use Rattle.host.proofs.foldharbor_text.Reads as telling
 
-pub call-determined : (κs : Lfts 2) (a : _) (x y : _) (s t : _) → calling.Post κs a x s → calling.Post κs a y t → (x ≡ y) × (now (s .1 .1 .0) ≡ now (t .1 .1 .0))
+pub call-determined : (κs : Lfts 2) (a : _) (x y : _) (s t : _) → calling.Post κs a x s → calling.Post κs a y t
+    → (x ≡ y) × (now (s .1 .1 .0) ≡ now (t .1 .1 .0))
 call-determined κs a x y s t p q = (alike (p .0) (q .0), alike (p .1) (q .1))
 
 pub text-determined : (κs : Lfts 1) (a : _) (x y : _) (s t : _) → telling.Post κs a x s → telling.Post κs a y t → x ≡ y
 text-determined κs a x y s t p q = alike p q
 
--- the other table has no influence: two calls whose chosen table is the same answer alike
+-- the other table has no influence: two calls whose chosen tables have the same bytes answer alike
 pub text-alone : (κs : Lfts 1) (first second first′ second′ language number : _) (x y : _) (s t : _)
-    → chosen language first second ≡ chosen language first′ second′
+    → now (chosen language first second) ≡ now (chosen language first′ second′)
     → telling.Post κs (first, (second, (language, (number, tt)))) x s → telling.Post κs (first′, (second′, (language, (number, tt)))) y t → x ≡ y
 text-alone κs first second first′ second′ language number x y s t same p q = alike (rw same at p) q
 

@@ -1,4 +1,5 @@
--- Of a text with a line for each message of a list that fits, `make` returns and writes a table that holds them; and where it makes a table, the lines fit.
+-- Of a text with a line for each message of a list that fits, `make` returns and writes a table that holds them; where it makes a table, the lines fit;
+-- where it makes none, it tells the first line at fault.
 -- `Post` is the contract as the check reads it off the source; `s .1 .0` is the buffer, the second parameter, at exit.
 use Prim.Native.Nat.{ℕ, suc, _+_, _≤_, _<_}
 use native.Mathlib.Omega.{arith}
@@ -17,9 +18,10 @@ use Rattle.texts.specs.Table.{mostMessages, mostBytes, headerWidth}
 use Rattle.lines.specs.Lines.{lines, textOf}
 use Rattle.lines.specs.Table.{tableOf}
 use Rattle.lines.specs.Made.{madeAfter, madeOf}
-use Rattle.lines.specs.Making.{tableLength, Fitting, Unbroken, Makes}
-use Rattle.lines.specs.declared.Made.the-variants.{Table}
+use Rattle.lines.specs.Making.{tableLength, Fitting, Unbroken, Makes, FirstFault}
+use Rattle.lines.specs.declared.Made.the-variants.{Table, Bad}
 use Rattle.lines.proofs.Judged.{bytes-table, table-some, table-whole}
+use Rattle.lines.proofs.Faults.{fault-first}
 use Rattle.lines.proofs.Lines.{lines-unbroken, lines-text}
 use Rattle.lines.proofs.Offsets.{table-length}
 use Rattle.lines.proofs.Reading.{holds}
@@ -77,3 +79,6 @@ module _ (κs : Lfts 2) (text buffer : _) (r : _) (s : _) (post : making.Post κ
 
   pub made-fits : (count length : ℕ) → r ≡ Table count length → Fitting (lines (now text)) × Unbroken (lines (now text))
   made-fits count length e = (fitting-made (lines (now text)) count length (sym (post .0) ∙ e), lines-unbroken (now text))
+
+  pub told-first : (fault : _) (line : ℕ) → r ≡ Bad fault line → FirstFault (lines (now text)) fault line
+  told-first fault line e = fault-first (lines (now text)) fault line (sym (post .0) ∙ e)

@@ -1,5 +1,5 @@
 -- What making a table comes to: of every list of 1 to 64 messages that fit, a line each, a good table is made and its message i is the list's, to the byte.
--- Proved of what `make` returns and writes, in proofs/Making.antt: `list-makes`, and `made-fits`, that a table is made of no other lines.
+-- Of no other lines is one made: the first line at fault is told. Proved of what `make` returns and writes, in proofs/Making.antt.
 use Prim.Native.Nat.{ℕ, _+_, _≤_, _<_}
 use mathlib.Core.Path.{_≡_}
 use mathlib.Core.Bool.{true}
@@ -8,6 +8,8 @@ use lib.ListN.{length, getD, take}
 use Rattle.utf8.specs.Utf8.{Utf8}
 use Rattle.texts.specs.Table.{mostMessages, mostBytes, headerWidth, count, message, tableGood}
 use Rattle.lines.specs.Lines.{lineEnd}
+use Rattle.lines.specs.declared.Fault.{Fault}
+use Rattle.lines.specs.declared.Fault.the-variants.{NoLine, TooMany, TooLong, NotUtf8}
 use Rattle.lines.specs.declared.Made.{Made}
 use Rattle.lines.specs.declared.Made.the-variants.{Table}
 
@@ -37,3 +39,20 @@ module _ (messages : List (List ℕ)) where
   pub record Makes (made : Made) (buffer : List ℕ) : Type 0 where
     pub returned : made ≡ Table (length messages) tableLength
     pub holds : Holds (take tableLength buffer)
+
+-- ---- what is told where no table is made
+module _ (messages : List (List ℕ)) where
+  -- the first n lines alone would fit
+  pub record FirstFit (n : ℕ) : Type 0 where
+    pub most : n ≤ mostMessages
+    pub short : tableLength (take n messages) ≤ mostBytes
+    pub utf8 : (i : ℕ) → i < n → Utf8 (getD messages i [])
+
+  -- the lines before the one that is told would fit, and it has the fault that is told, and none that is looked for before that one
+  pub data FirstFault (fault : Fault) (line : ℕ) : Type 0 where
+    no-line : fault ≡ NoLine → line ≡ 1 → length messages ≡ 0 → FirstFault fault line
+    too-many : fault ≡ TooMany → line ≡ mostMessages + 1 → line ≤ length messages → FirstFit mostMessages → FirstFault fault line
+    too-long : (n : ℕ) → fault ≡ TooLong → line ≡ n + 1 → line ≤ length messages → FirstFit n
+        → line ≤ mostMessages → mostBytes < tableLength (take line messages) → FirstFault fault line
+    not-utf8 : (n : ℕ) → fault ≡ NotUtf8 → line ≡ n + 1 → line ≤ length messages → FirstFit n
+        → line ≤ mostMessages → tableLength (take line messages) ≤ mostBytes → (Utf8 (getD messages n []) → ⊥) → FirstFault fault line

@@ -2,7 +2,9 @@
 use libc::STDOUT_FILENO;
 use texts::MOST_MESSAGES;
 
-const SPACES: [u8; 16] = [32; 16];
+const MOST_SPACES: usize = 16;
+
+const SPACES: [u8; MOST_SPACES] = [b' '; MOST_SPACES];
 
 const MOST_ROWS: u32 = MOST_MESSAGES as u32;
 
@@ -14,9 +16,9 @@ fn print_refused(refusal: u8) {
 
 fn print_spaces(count: usize) {
     let mut left = count;
-    while left > 16 {
+    while left > MOST_SPACES {
         io::write_all(STDOUT_FILENO, &SPACES);
-        left -= 16;
+        left -= MOST_SPACES;
     }
     io::write_all(STDOUT_FILENO, &SPACES[..left]);
 }
@@ -51,11 +53,11 @@ fn widest<'a>(first: &'a [u8], second: &'a [u8]) -> usize {
 
 // Prints a message of both tables, the first's in so wide a column; answers whether either table has it.
 fn show_row<'a>(first: &'a [u8], second: &'a [u8], number: u32, width: usize) -> bool {
-    let mut refusal = 0u8;
-    let left = texts::text(first, second, 1, number, &mut refusal);
-    let mut other = 0u8;
-    let right = texts::text(first, second, 2, number, &mut other);
-    if (refusal != 0) & (other != 0) {
+    let mut left_refused = 0u8;
+    let left = texts::text(first, second, 1, number, &mut left_refused);
+    let mut right_refused = 0u8;
+    let right = texts::text(first, second, 2, number, &mut right_refused);
+    if (left_refused != 0) & (right_refused != 0) {
         return false;
     }
     if number < 10 {

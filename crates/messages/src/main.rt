@@ -2,6 +2,7 @@
 //   messages FIRST SECOND                    each message on a line: its number, the first table's text, the second's
 //   messages FIRST SECOND LANGUAGE NUMBER    that message alone, or `refused` and the number of the refusal
 use libc::STDERR_FILENO;
+use texts::MOST_BYTES;
 
 // What a word says.
 enum Said {
@@ -11,35 +12,38 @@ enum Said {
 
 const MOST_NUMBER: u64 = 4294967295;
 
+// Tells why a file could not be opened or read.
+fn tell(name: &[u8]) {
+    io::write_all(STDERR_FILENO, b"messages: ");
+    os::fail(name);
+}
+
 // Reads the file that an argument names; answers its length, or -1 where it can't, which is told.
 fn load(argument: usize, table: &mut [u8]) -> isize {
     let mut name = io::buffer();
     let n = os::arg(argument, &mut name);
     if os::errno() != 0 {
-        os::fail(b"messages: a file's name");
+        tell(b"a file's name");
         return -1;
     }
     let file = os::open_read(&name[..n]);
     if file < 0 {
-        os::fail(&name[..n]);
+        tell(&name[..n]);
         return -1;
     }
-    let got = libc::read(file, table);
+    let got = input::fill(file, table);
     if got < 0 {
-        os::fail(&name[..n]);
-        libc::close(file);
-        return -1;
+        tell(&name[..n]);
     }
-    let start = io::count(got, table);
-    let length = start + io::read_full(file, &mut table[start..]);
     libc::close(file);
     // the buffer is one byte longer than a table can be
-    if length == table.len() {
+    if io::count(got, table) == table.len() {
+        io::write_all(STDERR_FILENO, b"messages: ");
         io::write_all(STDERR_FILENO, &name[..n]);
         io::write_all(STDERR_FILENO, b": longer than a table can be\n");
         return -1;
     }
-    length as isize
+    got
 }
 
 // The number that a word says in decimal, where a u32 holds it.
@@ -87,8 +91,8 @@ fn main() {
         return;
     }
     // one byte longer than a table can be
-    let mut first = io::large_buffer();
-    let mut second = io::large_buffer();
+    let mut first = [0u8; MOST_BYTES + 1];
+    let mut second = [0u8; MOST_BYTES + 1];
     let got = load(1, &mut first);
     if got < 0 {
         return;

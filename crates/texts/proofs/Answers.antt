@@ -1,4 +1,5 @@
--- What the call answers: why it refuses; where nothing is refused, a message of a good table; else nothing; in any case a part that lies in its table and is UTF-8.
+-- What the call answers: why it refuses; where nothing is refused, a message of a good table; else nothing.
+-- In any case it is a part that lies in its table and is UTF-8.
 -- By the reasons of the refusals, one after the other.
 use Prim.Native.Nat.{ℕ, _+_, _≤_, _<_}
 use native.Mathlib.Omega.{arith}
@@ -36,9 +37,15 @@ pub record Answer (table : List ℕ) (language number : ℕ) (place : Place) : T
   pub refused : (place .refusal ≡ 0 → ⊥) → (place .start ≡ 0) × (place .end ≡ 0)
 
 module _ (table : List ℕ) (language number : ℕ) where
-  why : Reason table language number (textRefusal table language number)
+  -- by its three tests
+  pub refusal-by : {unspoken bad beyond : Bool} → not (eqb language 1 || eqb language 2) ≡ unspoken → not (tableGood table) ≡ bad
+      → leb (count table) number ≡ beyond
+      → textRefusal table language number ≡ cond unspoken noSuchLanguage (cond bad badTable (cond beyond noSuchMessage 0))
   unfolding textRefusal
-  why = go (eqb language 1 || eqb language 2) (tableGood table) (leb (count table) number) refl refl refl
+  refusal-by d e f = rw (d, e, f)
+
+  why : Reason table language number (textRefusal table language number)
+  why = rw (refusal-by refl refl refl) (go (eqb language 1 || eqb language 2) (tableGood table) (leb (count table) number) refl refl refl)
     where
       go : (k g l : Bool) → (eqb language 1 || eqb language 2) ≡ k → tableGood table ≡ g → leb (count table) number ≡ l
           → Reason table language number (cond (not k) noSuchLanguage (cond (not g) badTable (cond l noSuchMessage 0)))

@@ -15,14 +15,19 @@ pub text-determined : (κs : Lfts 2) (a : _) (x y : _) (s t : _) → telling.Pos
     → (now x ≡ now y) × (ptr x ≡ ptr y) × (now (s .1 .1 .1 .1 .0) ≡ now (t .1 .1 .1 .1 .0))
 text-determined κs a x y s t p q = (alike (p .0) (q .0), alike (p .1 .0) (q .1 .0), alike (p .1 .1) (q .1 .1))
 
--- ---- the other table has no influence: two calls whose chosen table is the same answer alike
-module _ (first second first′ second′ : _) (language number : _) (same : chosen language first second ≡ chosen language first′ second′) where
-  pub place-alone : (κs : Lfts 1) (x y : _) (s t : _) → placing.Post κs (first, (second, (language, (number, tt)))) x s
-      → placing.Post κs (first′, (second′, (language, (number, tt)))) y t → x ≡ y
-  place-alone κs x y s t p q = alike (rw same at p) q
+-- ---- the other table has no influence: two calls whose chosen tables have the same bytes answer alike,
+-- and where the chosen table is one and the same, by the same part of it
+module _ (first second first′ second′ : _) (language number : _) where
+  pub place-alone : (κs : Lfts 1) (x y : _) (s t : _) → now (chosen language first second) ≡ now (chosen language first′ second′)
+      → placing.Post κs (first, (second, (language, (number, tt)))) x s → placing.Post κs (first′, (second′, (language, (number, tt)))) y t → x ≡ y
+  place-alone κs x y s t same p q = alike (rw same at p) q
 
-  pub text-alone : (κs : Lfts 2) (refusal : _) (x y : _) (s t : _) → telling.Post κs (first, (second, (language, (number, (refusal, tt))))) x s
-      → telling.Post κs (first′, (second′, (language, (number, (refusal, tt))))) y t
-      → (now x ≡ now y) × (ptr x ≡ ptr y) × (now (s .1 .1 .1 .1 .0) ≡ now (t .1 .1 .1 .1 .0))
-  text-alone κs refusal x y s t p q =
-      let e = rw same at p in (alike (e .0) (q .0), alike (e .1 .0) (q .1 .0), alike (e .1 .1) (q .1 .1))
+  module _
+      (κs : Lfts 2) (refusal : _) (x y : _) (s t : _) (p : telling.Post κs (first, (second, (language, (number, (refusal, tt))))) x s)
+      (q : telling.Post κs (first′, (second′, (language, (number, (refusal, tt))))) y t) where
+    pub text-alone : now (chosen language first second) ≡ now (chosen language first′ second′)
+        → (now x ≡ now y) × (now (s .1 .1 .1 .1 .0) ≡ now (t .1 .1 .1 .1 .0))
+    text-alone same = (alike (rw same at (p .0)) (q .0), alike (rw same at (p .1 .1)) (q .1 .1))
+
+    pub address-alone : chosen language first second ≡ chosen language first′ second′ → ptr x ≡ ptr y
+    address-alone same = alike (rw same at (p .1 .0)) (q .1 .0)

@@ -1,4 +1,5 @@
 -- The text of a message in a language: the chosen table, the refusal, and the part of the table.
+-- Proved of the calls: `Reason`, why each refusal is given, in proofs/Answers.antt; that the other table has no influence, in proofs/Determined.antt.
 use Prim.Native.Nat.{ℕ, _+_}
 use mathlib.Core.Bool.{not, _||_, cond}
 use mathlib.Core.List.{List}

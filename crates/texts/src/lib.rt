@@ -86,10 +86,12 @@ fn table_good(table: &[u8]) -> bool
 fn text_refusal(table: &[u8], language: u32, number: u32) -> u8
     ensures { λ r. ⌜ r ≡ textRefusal (now (table .entry)) language number ⌝ }
 {
-    if !((language == 1) | (language == 2)) {
+    let spoken = (language == 1) | (language == 2);
+    let good = table_good(table);
+    if !spoken {
         return refusal::NO_SUCH_LANGUAGE;
     }
-    if !table_good(table) {
+    if !good {
         return refusal::BAD_TABLE;
     }
     if count(table) as u32 <= number {

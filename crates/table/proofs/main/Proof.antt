@@ -8,14 +8,26 @@ use Rattle.lines.proofs.Judged.{table-short, buffer-kept}
 use Rattle.table.proofs.main.Statement.{statement}
 use Rattle.table.proofs.main.Tie as tie
 
-large-buffer-requires : tie.Need-large-buffer-requires
-large-buffer-requires c κs = search needs
+slice-aggregate-fill : tie.Need-slice-aggregate-fill
+slice-aggregate-fill c = search needs
 
-slice-aggregate-read-full : tie.Need-slice-aggregate-read-full
-slice-aggregate-read-full c = search needs
+fill-requires : tie.Need-fill-requires
+fill-requires c κs = search needs
 
-read-full-requires : tie.Need-read-full-requires
-read-full-requires c κs = search needs
+slice-aggregate-fail : tie.Need-slice-aggregate-fail
+slice-aggregate-fail c = search needs
+
+fail-requires : tie.Need-fail-requires
+fail-requires c κs = search needs
+
+returns : tie.Need-returns
+returns c = search needs
+
+slice-aggregate-count : tie.Need-slice-aggregate-count
+slice-aggregate-count c = search needs
+
+count-requires : tie.Need-count-requires
+count-requires c κs = search needs
 
 array-share-prefix-text : tie.Need-array-share-prefix-text
 array-share-prefix-text c = search needs
@@ -48,11 +60,11 @@ slice-aggregate-write-all c =
 write-all-requires : tie.Need-write-all-requires
 write-all-requires c κs = search needs
 
-slice-aggregate-fail : tie.Need-slice-aggregate-fail
-slice-aggregate-fail c = search needs
+slice-aggregate-fail-2 : tie.Need-slice-aggregate-fail-2
+slice-aggregate-fail-2 c = search needs
 
-fail-requires : tie.Need-fail-requires
-fail-requires c κs = search needs
+fail-requires-2 : tie.Need-fail-requires-2
+fail-requires-2 c κs = search needs
 
 enum-known-fault : tie.Need-enum-known-fault
 enum-known-fault c = search needs
@@ -60,22 +72,26 @@ enum-known-fault c = search needs
 tell-requires : tie.Need-tell-requires
 tell-requires c κs = search needs
 
-returns : tie.Need-returns
-returns c = search needs
-
 returns-2 : tie.Need-returns-2
 returns-2 c = search needs
 
 returns-3 : tie.Need-returns-3
 returns-3 c = search needs
 
+returns-4 : tie.Need-returns-4
+returns-4 c = search needs
+
 pub main-spec : {M : Type 1} → statement M
 main-spec =
     tie.close
     (tie.spec
-    large-buffer-requires
-    slice-aggregate-read-full
-    read-full-requires
+    slice-aggregate-fill
+    fill-requires
+    slice-aggregate-fail
+    fail-requires
+    returns
+    slice-aggregate-count
+    count-requires
     array-share-prefix-text
     slice-aggregate-make
     make-requires
@@ -83,10 +99,10 @@ main-spec =
     array-share-prefix-table
     slice-aggregate-write-all
     write-all-requires
-    slice-aggregate-fail
-    fail-requires
+    slice-aggregate-fail-2
+    fail-requires-2
     enum-known-fault
     tell-requires
-    returns
     returns-2
-    returns-3)
+    returns-3
+    returns-4)
