@@ -62,7 +62,8 @@ each-on line rest k u h (suc i) l = h i (omega arith)
 -- ---- the first fault after so many lines
 -- the line itself is at fault
 here : (count bytes : ℕ) (line : List ℕ) (rest : List (List ℕ)) (fault : Fault) (told : ℕ)
-    → count ≤ mostMessages → headerWidth count + bytes ≤ mostBytes → told ≡ count + 1 → Wrong count bytes (line ∷ rest) 0 fault → After count bytes (line ∷ rest) fault told
+    → count ≤ mostMessages → headerWidth count + bytes ≤ mostBytes → told ≡ count + 1 → Wrong count bytes (line ∷ rest) 0 fault
+    → After count bytes (line ∷ rest) fault told
 here count bytes line rest fault told l h e w =
     record {
       k = 0;

@@ -19,7 +19,8 @@ text-determined κs a x y s t p q = (alike (p .0) (q .0), alike (p .1 .0) (q .1 
 -- and where the chosen table is one and the same, by the same part of it
 module _ (first second first′ second′ : _) (language number : _) where
   pub place-alone : (κs : Lfts 1) (x y : _) (s t : _) → now (chosen language first second) ≡ now (chosen language first′ second′)
-      → placing.Post κs (first, (second, (language, (number, tt)))) x s → placing.Post κs (first′, (second′, (language, (number, tt)))) y t → x ≡ y
+      → placing.Post κs (first, (second, (language, (number, tt)))) x s → placing.Post κs (first′, (second′, (language, (number, tt)))) y t
+      → x ≡ y
   place-alone κs x y s t same p q = alike (rw same at p) q
 
   module _

@@ -87,7 +87,10 @@ pub record Begins (bytes : List ℕ) (w : ℕ) : Type 0 where
 -- a byte that is not FF stands in the list
 stands : (bytes : List ℕ) (k : ℕ) → getD bytes k 0xFF < 0xFF → k < length bytes
 stands bytes k h =
-    ⊎-elim (λ (l : length bytes ≤ k). absurd (let e = List·getD-eq-default bytes 0xFF l in omega arith)) (λ (l : k < length bytes). l) (le-or-lt (length bytes) k)
+    ⊎-elim
+    (λ (l : length bytes ≤ k). absurd (let e = List·getD-eq-default bytes 0xFF l in omega arith))
+    (λ (l : k < length bytes). l)
+    (le-or-lt (length bytes) k)
 
 module _ (bytes : List ℕ) where
   abbrev at : ℕ → ℕ
@@ -130,7 +133,8 @@ module _ (bytes : List ℕ) where
   width-begins n =
       go (one (at 0)) (two (at 0) (at 1)) (three (at 0) (at 1) (at 2)) (four (at 0) (at 1) (at 2) (at 3)) begins-one begins-two begins-three begins-four n
     where
-      go : (p q r s : Bool) → (p ≡ true → Begins bytes 1) → (q ≡ true → Begins bytes 2) → (r ≡ true → Begins bytes 3) → (s ≡ true → Begins bytes 4)
+      go : (p q r s : Bool) → (p ≡ true → Begins bytes 1) → (q ≡ true → Begins bytes 2) → (r ≡ true → Begins bytes 3)
+          → (s ≡ true → Begins bytes 4)
           → (_≡_ {A = ℕ} (cond p 1 (cond q 2 (cond r 3 (cond s 4 0)))) 0 → ⊥) → Begins bytes (cond p 1 (cond q 2 (cond r 3 (cond s 4 0))))
       go true q r s i j k l n = i refl
       go false true r s i j k l n = j refl

@@ -1,7 +1,10 @@
 -- `fill` is safe and ends: each turn that goes on reads a byte at least, and the measure is the room that is left.
 use Prim.Native.Nat.{_-_, _≤_}
 use mathlib.Core.Path.{_≡_}
+use native.Mathlib.Omega.{arith}
 use lib.ListN.{length}
+use mir.Syntax.{w64}
+use mir.Facts.{toZ-pos}
 use borrow.Author.Needs.{needs}
 use Rattle.input.proofs.fill.Statement.{statement}
 use Rattle.input.proofs.fill.Tie as tie
@@ -43,7 +46,9 @@ same-length-2 : tie.Need-same-length-2 Inv-loop μ-loop
 same-length-2 c = search needs
 
 returns-2 : tie.Need-returns-2 Inv-loop μ-loop
-returns-2 c = search needs
+returns-2 c =
+    let head = c .before .before .before .before .before .before .before .before .before .before .before .before .loop in
+    rw (toZ-pos w64 {n = head .n} (search needs)) (omega arith)
 
 add-n : tie.Need-add-n Inv-loop μ-loop
 add-n c = search needs
@@ -61,7 +66,9 @@ same-length-3 : tie.Need-same-length-3 Inv-loop μ-loop
 same-length-3 c = search needs
 
 returns-3 : tie.Need-returns-3 Inv-loop μ-loop
-returns-3 c = search needs
+returns-3 c =
+    let head = c .before .loop in
+    rw (toZ-pos w64 {n = head .n} (search needs)) (omega arith)
 
 pub fill-spec : {M : Type 1} → statement M
 fill-spec =

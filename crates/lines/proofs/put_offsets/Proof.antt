@@ -88,7 +88,10 @@ put-u16-requires-2 c κs =
     omega arith
 
 same-length : tie.Need-same-length Inv-loop μ-loop
-same-length c = let put = c .before .before in put .put-u162 .kept .0 ∙ put .before .before .before .loop .inv .0
+same-length c =
+    let put = c .before .before in
+    let head = put .before .before .before in
+    put .put-u162 .kept .0 ∙ head .loop .inv .0
 
 returns : tie.Need-returns Inv-loop μ-loop
 returns c =
