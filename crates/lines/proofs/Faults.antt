@@ -1,6 +1,6 @@
 -- The fault that is told is that of the first line at fault: those before it fit, and what is looked for before it in that line is not wrong.
 -- By the three tests of a line, by induction on the lines.
-use Prim.Native.Nat.{ℕ, zero, suc, _+_, _≤_, _<_}
+use Prim.Native.Nat.{ℕ, suc, _+_, _≤_, _<_}
 use native.Mathlib.Omega.{arith}
 use mathlib.Core.Path.{_≡_, refl, sym, ap, _∙_}
 use mathlib.Core.Bool.{Bool, true, false, not, cond, decide, decide-iff, true≢false}
@@ -18,6 +18,7 @@ use Rattle.lines.specs.declared.Fault.{Fault}
 use Rattle.lines.specs.declared.Fault.the-variants.{NoLine, TooMany, TooLong, NotUtf8}
 use Rattle.lines.specs.declared.Made.{Made}
 use Rattle.lines.specs.declared.Made.the-variants.{Bad}
+use Rattle.lines.proofs.Judged.{each-on}
 
 -- ---- after so many lines with so many bytes: the bytes of the table of those and of the first k of the rest
 bytesTo : ℕ → ℕ → List (List ℕ) → ℕ → ℕ
@@ -53,11 +54,6 @@ wrong-on : (count bytes : ℕ) (line : List ℕ) (rest : List (List ℕ)) (k : �
 wrong-on count bytes line rest k fault (many e h) = many e (omega arith)
 wrong-on count bytes line rest k fault (long e h l) = long e (omega arith) (rw (bytes-on count bytes line rest (suc k)) l)
 wrong-on count bytes line rest k fault (ill e h l u) = ill e (omega arith) (rw (bytes-on count bytes line rest (suc k)) l) u
-
-each-on : (line : List ℕ) (rest : List (List ℕ)) (k : ℕ) → Utf8 line → ((i : ℕ) → i < k → Utf8 (getD rest i []))
-    → (i : ℕ) → i < suc k → Utf8 (getD (line ∷ rest) i [])
-each-on line rest k u h zero l = u
-each-on line rest k u h (suc i) l = h i (omega arith)
 
 -- ---- the first fault after so many lines
 -- the line itself is at fault

@@ -67,6 +67,12 @@ three-no false true c x y z line r n m e = absurd (let k : _≡_ {A = ℕ} 0 1 =
 three-no false false true x y z line r n m e = absurd (let k : _≡_ {A = ℕ} 0 1 = cc in omega arith)
 three-no false false false x y z line r n m e = (refl, refl, refl, e)
 
+-- the first lines, with one more in front
+pub each-on : (line : List ℕ) (rest : List (List ℕ)) (k : ℕ) → Utf8 line → ((i : ℕ) → i < k → Utf8 (getD rest i []))
+    → (i : ℕ) → i < suc k → Utf8 (getD (line ∷ rest) i [])
+each-on line rest k u h zero l = u
+each-on line rest k u h (suc i) l = h i (omega arith)
+
 pub whole : (messages : List (List ℕ)) (count bytes n m : ℕ) → count ≤ mostMessages → headerWidth count + bytes ≤ mostBytes
     → madeAfter count bytes messages ≡ Table n m → Whole count bytes messages n m
 unfolding madeAfter flatten
@@ -87,13 +93,8 @@ whole (line ∷ rest) count bytes n m l h e =
       long = omega (arith, w .long);
       most = w .most;
       short = w .short;
-      each = each-of line rest (decide-iff (utf8? line) .0 (not-false _ (t .2))) (w .each);
+      each = each-on line rest (length rest) (decide-iff (utf8? line) .0 (not-false _ (t .2))) (w .each);
     }
-  where
-    each-of : (line : List ℕ) (rest : List (List ℕ)) → Utf8 line → ((i : ℕ) → i < length rest → Utf8 (getD rest i []))
-        → (i : ℕ) → i < suc (length rest) → Utf8 (getD (line ∷ rest) i [])
-    each-of line rest u h zero k = u
-    each-of line rest u h (suc i) k = h i (omega arith)
 
 pub table-whole : (messages : List (List ℕ)) (n m : ℕ) → madeOf messages ≡ Table n m → Whole 0 0 messages n m
 unfolding madeOf
