@@ -5,11 +5,11 @@ use native.Mathlib.Omega.{arith}
 use Rattle.numbers.proofs.Choice.{most-iff, weight-most}
 use Rattle.causes.specs.declared.Causes.{Causes}
 use Rattle.causes.specs.Held.{allHeld, maskOf}
-use Rattle.causes.specs.Keeping.{wrongwayLeft}
+use Rattle.causes.specs.Keeping.{step10Wrongway}
 
-pub wrongway-left-most : (d n : ℕ) (held triggered free : Causes) → d ≤ n → wrongwayLeft d held triggered free ≤ n
-unfolding wrongwayLeft
-wrongway-left-most d n held triggered free p = simp most-iff (omega arith)
+pub step-10-wrongway-most : (d n : ℕ) (held triggered free : Causes) → d ≤ n → step10Wrongway d held triggered free ≤ n
+unfolding step10Wrongway
+step-10-wrongway-most d n held triggered free p = simp most-iff (omega arith)
 
 pub mask-of-most : (c : Causes) → maskOf c ≤ allHeld
 unfolding maskOf

@@ -14,8 +14,8 @@ use Rattle.numbers.proofs.Tests.{and-iff, leb-iff}
 use Rattle.record.specs.declared.Record.{Record}
 use Rattle.record.specs.declared.Keys.{Keys}
 use Rattle.causes.specs.declared.Causes.{Causes}
-use Rattle.causes.specs.Held.{heldIn, maskOf, also, listed, firstOr, lowest, howMany}
-use Rattle.causes.specs.Keeping.{released, kept}
+use Rattle.causes.specs.Held.{heldIn, maskOf, ifHeld, listed, firstOr, lowest, howMany}
+use Rattle.causes.specs.Keeping.{released, step10Held}
 
 -- ---- the counts
 -- x is y, and at most n
@@ -32,11 +32,11 @@ lowest-right : ℕ → Bool
 lowest-right m = eqb m 0 || right (trailingZeros 8 m + 1) (lowest m) 5
 
 counts-right : allBelow count-right 32 ≡ true
-unfolding allBelow count-right ones onesIn howMany listed also heldIn
+unfolding allBelow count-right ones onesIn howMany listed ifHeld heldIn
 counts-right = refl
 
 lowests-right : allBelow lowest-right 32 ≡ true
-unfolding allBelow lowest-right trailingZeros lowest firstOr listed also heldIn
+unfolding allBelow lowest-right trailingZeros lowest firstOr listed ifHeld heldIn
 lowests-right = refl
 
 pub count-is : (m : ℕ) → m ≤ 31 → (ones m ≡ howMany m) × (ones m ≤ 5)
@@ -49,7 +49,7 @@ lowest-is m h z =
     right-is (trailingZeros 8 m + 1) (lowest m) 5 (simp (ne-eqb _ _ z) at (all-each lowest-right m 32 (omega arith) lowests-right))
 
 pub lowest-none : lowest 0 ≡ 0
-unfolding lowest firstOr listed also heldIn
+unfolding lowest firstOr listed ifHeld heldIn
 lowest-none = refl
 
 -- ---- a test that passes at all causes
@@ -99,14 +99,14 @@ abbrev nothing : Causes
 nothing = five false false false false false
 
 joins : ℕ → Causes → Bool
-joins m t = right (bitOr m (maskOf t)) (maskOf (kept (heldIn m) t nothing)) 31
+joins m t = right (bitOr m (maskOf t)) (maskOf (step10Held (heldIn m) t nothing)) 31
 
 joins-all : allBelow (λ m. every (joins m)) 32 ≡ true
-unfolding allBelow joins maskOf kept heldIn
+unfolding allBelow joins maskOf step10Held heldIn
 joins-all = refl
 
 pub joined : (m : ℕ) → m ≤ 31 → (t : Causes) (p : ℕ) (r : Record) (k : Keys) → k .vigilance ≡ false
-    → (bitOr m (maskOf t) ≡ maskOf (kept (heldIn m) t (released p r k))) × (bitOr m (maskOf t) ≤ 31)
+    → (bitOr m (maskOf t) ≡ maskOf (step10Held (heldIn m) t (released p r k))) × (bitOr m (maskOf t) ≤ 31)
 unfolding joins released
 joined m h t p r k e = rw e (right-is _ _ 31 (each (joins m) (all-each (λ m. every (joins m)) m 32 (omega arith) joins-all) t))
 
@@ -115,7 +115,7 @@ some-right : ℕ → Bool
 some-right m = Bool·beq (not (eqb m 0)) (ltb 0 (howMany m))
 
 somes-right : allBelow some-right 32 ≡ true
-unfolding allBelow some-right howMany listed also heldIn
+unfolding allBelow some-right howMany listed ifHeld heldIn
 somes-right = refl
 
 pub some-held : (m : ℕ) → m ≤ 31 → not (eqb m 0) ≡ ltb 0 (howMany m)

@@ -30,14 +30,14 @@ unfoldable pub heldIn : ℕ → Causes
 heldIn mask = record { nz1 = bitOn mask nz1; nz2 = bitOn mask nz2; nz3 = bitOn mask nz3; nz4 = bitOn mask nz4; nz5 = bitOn mask nz5 }
 
 unfoldable pub maskOf : Causes → ℕ
-maskOf c = cond (c .nz1) nz1 0 + cond (c .nz2) nz2 0 + cond (c .nz3) nz3 0 + cond (c .nz4) nz4 0 + cond (c .nz5) nz5 0
+maskOf causes = cond (causes .nz1) nz1 0 + cond (causes .nz2) nz2 0 + cond (causes .nz3) nz3 0 + cond (causes .nz4) nz4 0 + cond (causes .nz5) nz5 0
 
-unfoldable pub also : Bool → ℕ → List ℕ → List ℕ
-also held number rest = cond held (number ∷ rest) rest
+unfoldable pub ifHeld : Bool → ℕ → List ℕ → List ℕ
+ifHeld held number rest = cond held (number ∷ rest) rest
 
 -- the numbers of the causes that are held
 unfoldable pub listed : Causes → List ℕ
-listed c = also (c .nz1) 1 (also (c .nz2) 2 (also (c .nz3) 3 (also (c .nz4) 4 (also (c .nz5) 5 []))))
+listed causes = ifHeld (causes .nz1) 1 (ifHeld (causes .nz2) 2 (ifHeld (causes .nz3) 3 (ifHeld (causes .nz4) 4 (ifHeld (causes .nz5) 5 []))))
 
 unfoldable pub firstOr : ℕ → List ℕ → ℕ
 firstOr none [] = none

@@ -8,12 +8,12 @@ use Rattle.causes.specs.declared.Causes.{Causes}
 
 -- a vigilance press lets go NZ1, NZ3 if v = 0; NZ2 if v ≤ P; NZ4 if v = 0 and remote stop off; NZ5 always
 unfoldable pub released : ℕ → Record → Keys → Causes
-released p r keys =
+released p reading keys =
     record {
-      nz1 = keys .vigilance && eqb (r .v) 0;
-      nz2 = keys .vigilance && leb (r .v) p;
-      nz3 = keys .vigilance && eqb (r .v) 0;
-      nz4 = keys .vigilance && eqb (r .v) 0 && not (keys .remote);
+      nz1 = keys .vigilance && eqb (reading .v) 0;
+      nz2 = keys .vigilance && leb (reading .v) p;
+      nz3 = keys .vigilance && eqb (reading .v) 0;
+      nz4 = keys .vigilance && eqb (reading .v) 0 && not (keys .remote);
       nz5 = keys .vigilance;
     }
 
@@ -24,8 +24,8 @@ keeps held triggered free = triggered || (held && not free)
 abbrev pub letsGo : Bool → Bool → Bool → Bool
 letsGo held triggered free = held && not triggered && free
 
-unfoldable pub kept : Causes → Causes → Causes → Causes
-kept held triggered free =
+unfoldable pub step10Held : Causes → Causes → Causes → Causes
+step10Held held triggered free =
     record {
       nz1 = keeps (held .nz1) (triggered .nz1) (free .nz1);
       nz2 = keeps (held .nz2) (triggered .nz2) (free .nz2);
@@ -35,5 +35,5 @@ kept held triggered free =
     }
 
 -- letting NZ3 go sets d = 0
-unfoldable pub wrongwayLeft : ℕ → Causes → Causes → Causes → ℕ
-wrongwayLeft d held triggered free = cond (letsGo (held .nz3) (triggered .nz3) (free .nz3)) 0 d
+unfoldable pub step10Wrongway : ℕ → Causes → Causes → Causes → ℕ
+step10Wrongway wrongway held triggered free = cond (letsGo (held .nz3) (triggered .nz3) (free .nz3)) 0 wrongway

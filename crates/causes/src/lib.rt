@@ -2,7 +2,7 @@
 ghost use mathlib.Core.Path.{_≡_};
 ghost use Prim.Native.Nat.{_≤_};
 ghost use Rattle.causes.specs.Held.{allHeld, heldIn, maskOf, lowest, howMany};
-ghost use Rattle.causes.specs.Keeping.{released, kept, wrongwayLeft};
+ghost use Rattle.causes.specs.Keeping.{released, step10Held, step10Wrongway};
 use record::Keys;
 use record::Record;
 
@@ -15,18 +15,28 @@ pub struct Causes {
     pub nz5: bool,
 }
 
-// All five causes.
-pub const ALL_HELD: u8 = 31;
+// The weights of the causes in the mask.
+const NZ1: u8 = 1;
+
+const NZ2: u8 = 2;
+
+const NZ3: u8 = 4;
+
+const NZ4: u8 = 8;
+
+const NZ5: u8 = 16;
+
+pub const ALL_HELD: u8 = NZ1 + NZ2 + NZ3 + NZ4 + NZ5;
 
 fn held_in(mask: u8) -> Causes
-    ensures { λ c. ⌜ c ≡ heldIn mask ⌝ }
+    ensures { λ causes. ⌜ causes ≡ heldIn mask ⌝ }
 {
     Causes {
-        nz1: mask / 1 % 2 == 1,
-        nz2: mask / 2 % 2 == 1,
-        nz3: mask / 4 % 2 == 1,
-        nz4: mask / 8 % 2 == 1,
-        nz5: mask / 16 % 2 == 1,
+        nz1: mask / NZ1 % 2 == 1,
+        nz2: mask / NZ2 % 2 == 1,
+        nz3: mask / NZ3 % 2 == 1,
+        nz4: mask / NZ4 % 2 == 1,
+        nz5: mask / NZ5 % 2 == 1,
     }
 }
 
@@ -37,14 +47,14 @@ pub fn holds_nz5(mask: u8) -> bool
     held_in(mask).nz5
 }
 
-fn mask_of(c: Causes) -> u8
-    ensures { λ m. ⌜ (m ≡ maskOf c) × (m ≤ allHeld) ⌝ }
+fn mask_of(causes: Causes) -> u8
+    ensures { λ m. ⌜ (m ≡ maskOf causes) × (m ≤ allHeld) ⌝ }
 {
-    numbers::weight(c.nz1, 1)
-        + numbers::weight(c.nz2, 2)
-        + numbers::weight(c.nz3, 4)
-        + numbers::weight(c.nz4, 8)
-        + numbers::weight(c.nz5, 16)
+    numbers::weight(causes.nz1, NZ1)
+        + numbers::weight(causes.nz2, NZ2)
+        + numbers::weight(causes.nz3, NZ3)
+        + numbers::weight(causes.nz4, NZ4)
+        + numbers::weight(causes.nz5, NZ5)
 }
 
 // The lowest-numbered held cause.
@@ -66,21 +76,21 @@ pub fn how_many(mask: u8) -> u8
 }
 
 // Step 10: what a vigilance press lets go.
-fn released(p: u16, r: Record, k: Keys) -> Causes
-    ensures { λ x. ⌜ x ≡ released p r k ⌝ }
+fn released(p: u16, reading: Record, keys: Keys) -> Causes
+    ensures { λ x. ⌜ x ≡ released p reading keys ⌝ }
 {
     Causes {
-        nz1: k.vigilance & (r.v == 0),
-        nz2: k.vigilance & (r.v <= p),
-        nz3: k.vigilance & (r.v == 0),
-        nz4: k.vigilance & (r.v == 0) & !k.remote,
-        nz5: k.vigilance,
+        nz1: keys.vigilance & (reading.v == 0),
+        nz2: keys.vigilance & (reading.v <= p),
+        nz3: keys.vigilance & (reading.v == 0),
+        nz4: keys.vigilance & (reading.v == 0) & !keys.remote,
+        nz5: keys.vigilance,
     }
 }
 
 // Step 10: which causes are held then.
-fn kept(held: Causes, triggered: Causes, free: Causes) -> Causes
-    ensures { λ x. ⌜ x ≡ kept held triggered free ⌝ }
+fn step_10_held(held: Causes, triggered: Causes, free: Causes) -> Causes
+    ensures { λ x. ⌜ x ≡ step10Held held triggered free ⌝ }
 {
     Causes {
         nz1: triggered.nz1 | (held.nz1 & !free.nz1),
@@ -92,26 +102,33 @@ fn kept(held: Causes, triggered: Causes, free: Causes) -> Causes
 }
 
 // Step 10: the mask of the causes held then. Without a vigilance press none is let go.
-pub fn mask_next(mask: u8, triggered: Causes, p: u16, r: Record, k: Keys) -> u8
+pub fn step_10_mask(mask: u8, triggered: Causes, p: u16, reading: Record, keys: Keys) -> u8
     requires { ⌜ mask ≤ allHeld ⌝ }
-    ensures { λ m. ⌜ (m ≡ maskOf (kept (heldIn mask) triggered (released p r k))) × (m ≤ allHeld) ⌝ }
+    ensures { λ m. ⌜ (m ≡ maskOf (step10Held (heldIn mask) triggered (released p reading keys))) × (m ≤ allHeld) ⌝ }
 {
-    if k.vigilance {
-        return mask_of(kept(held_in(mask), triggered, released(p, r, k)));
+    if keys.vigilance {
+        return mask_of(step_10_held(held_in(mask), triggered, released(p, reading, keys)));
     }
     mask | mask_of(triggered)
 }
 
-// Step 10: letting NZ3 go.
-pub fn wrongway_left(d: u16, mask: u8, triggered: Causes, p: u16, r: Record, k: Keys) -> u16
-    ensures { λ x. ⌜ (x ≡ wrongwayLeft d (heldIn mask) triggered (released p r k)) × (x ≤ d) ⌝ }
+// Step 10: letting NZ3 go sets d = 0.
+pub fn step_10_wrongway(
+    wrongway: u16,
+    mask: u8,
+    triggered: Causes,
+    p: u16,
+    reading: Record,
+    keys: Keys,
+) -> u16
+    ensures { λ x. ⌜ (x ≡ step10Wrongway wrongway (heldIn mask) triggered (released p reading keys)) × (x ≤ wrongway) ⌝ }
 {
-    if k.vigilance {
+    if keys.vigilance {
         let held = held_in(mask);
-        let free = released(p, r, k);
+        let free = released(p, reading, keys);
         if held.nz3 & !triggered.nz3 & free.nz3 {
             return 0;
         }
     }
-    d
+    wrongway
 }

@@ -15,26 +15,26 @@ use Rattle.record.specs.Codes.{clear}
 use Rattle.codes.specs.declared.Codes.{Codes}
 use Rattle.codes.specs.Ranges.{longestGap, mostRaise, CodesRanges}
 use Rattle.codes.specs.Target.{target}
-use Rattle.codes.specs.Gap.{gapCodeNext, gapNext}
-use Rattle.codes.specs.Plus.{raiseByCode, raiseNext, codesNext}
+use Rattle.codes.specs.Gap.{interruptedNext, gapNext}
+use Rattle.codes.specs.Plus.{raiseByCode, step3Plus, codesNext}
 
 pub target-most : (card : Card) (code raise : ℕ) → CardRanges card → raise ≤ mostRaise → target card code raise ≤ topSpeed
 unfolding target
 target-most card code raise good few = simp most-iff (omega arith)
 
 module _ (c : Codes) (r : Record) (k : Keys) (good : CodesRanges c) (fits : RecordRanges r) where
-  gap-code-next-most : gapCodeNext c r ≤ clear
-  unfolding gapCodeNext
-  gap-code-next-most = simp most-iff (omega arith)
+  interrupted-next-most : interruptedNext c r ≤ clear
+  unfolding interruptedNext
+  interrupted-next-most = simp most-iff (omega arith)
 
   gap-next-most : gapNext c r ≤ longestGap
   unfolding gapNext
   gap-next-most = simp most-iff (omega arith)
 
-  raise-next-most : raiseNext c r k ≤ mostRaise
-  unfolding raiseNext raiseByCode
-  raise-next-most = simp (most-iff, and-iff) (omega (arith, ltb-true))
+  step-3-plus-most : step3Plus c r k ≤ mostRaise
+  unfolding step3Plus raiseByCode
+  step-3-plus-most = simp (most-iff, and-iff) (omega (arith, ltb-true))
 
   pub codes-next-ranges : CodesRanges (codesNext c r k)
   unfolding codesNext
-  codes-next-ranges = omega (arith, gap-code-next-most, gap-next-most, raise-next-most)
+  codes-next-ranges = omega (arith, interrupted-next-most, gap-next-most, step-3-plus-most)

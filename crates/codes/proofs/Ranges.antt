@@ -8,9 +8,7 @@ use Rattle.codes.specs.declared.Codes.{Codes}
 use Rattle.codes.specs.Ranges.{CodesRanges, codesInRange}
 
 pub codes-ranges : (c : Codes) → codesInRange c ≡ true → CodesRanges c
-unfolding codesInRange
 codes-ranges c h = omega (arith, simp (and-iff, leb-iff) at h)
 
 pub ranges-codes : (c : Codes) → CodesRanges c → codesInRange c ≡ true
-unfolding codesInRange
 ranges-codes c h = simp (and-iff, leb-iff) (omega arith)

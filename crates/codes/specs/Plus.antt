@@ -7,17 +7,17 @@ use Rattle.record.specs.declared.Keys.{Keys}
 use Rattle.record.specs.Codes.{forty}
 use Rattle.codes.specs.declared.Codes.{Codes}
 use Rattle.codes.specs.Ranges.{mostRaise}
-use Rattle.codes.specs.Gap.{newCode, gapCodeNext, gapNext}
+use Rattle.codes.specs.Gap.{newCode, interruptedNext, gapNext}
 
 -- step 2, with a new code: raise becomes 0 before the new T is taken
 unfoldable pub raiseByCode : Codes → Record → ℕ
-raiseByCode c r = cond (newCode c r) 0 (c .raise)
+raiseByCode codes reading = cond (newCode codes reading) 0 (codes .raise)
 
-module _ (c : Codes) (r : Record) (keys : Keys) where
+module _ (codes : Codes) (reading : Record) (keys : Keys) where
   -- step 3: a PLUS press under code 3 with raise below 4 adds one
-  unfoldable pub raiseNext : ℕ
-  raiseNext =
-      cond (keys .plus && eqb (r .code) forty && ltb (raiseByCode c r) mostRaise) (raiseByCode c r + 1) (raiseByCode c r)
+  unfoldable pub step3Plus : ℕ
+  step3Plus =
+      cond (keys .plus && eqb (reading .code) forty && ltb (raiseByCode codes reading) mostRaise) (raiseByCode codes reading + 1) (raiseByCode codes reading)
 
   unfoldable pub codesNext : Codes
-  codesNext = record { last = r .code; before = gapCodeNext c r; gap = gapNext c r; raise = raiseNext }
+  codesNext = record { last = reading .code; interrupted = interruptedNext codes reading; gap = gapNext codes reading; raise = step3Plus }

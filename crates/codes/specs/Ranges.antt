@@ -13,13 +13,13 @@ abbrev pub mostRaise : ℕ
 mostRaise = 4
 
 abbrev pub noCodes : Codes
-noCodes = record { last = 0; before = 0; gap = 0; raise = 0 }
+noCodes = record { last = 0; interrupted = 0; gap = 0; raise = 0 }
 
-pub record CodesRanges (c : Codes) : Type 0 where
-  pub last-most : c .last ≤ clear
-  pub before-most : c .before ≤ clear
-  pub gap-most : c .gap ≤ longestGap
-  pub raise-most : c .raise ≤ mostRaise
+pub record CodesRanges (codes : Codes) : Type 0 where
+  pub last-most : codes .last ≤ clear
+  pub interrupted-most : codes .interrupted ≤ clear
+  pub gap-most : codes .gap ≤ longestGap
+  pub raise-most : codes .raise ≤ mostRaise
 
-unfoldable pub codesInRange : Codes → Bool
-codesInRange c = leb (c .last) clear && leb (c .before) clear && leb (c .gap) longestGap && leb (c .raise) mostRaise
+abbrev pub codesInRange : Codes → Bool
+codesInRange codes = leb (codes .last) clear && leb (codes .interrupted) clear && leb (codes .gap) longestGap && leb (codes .raise) mostRaise

@@ -7,8 +7,8 @@ ghost use Rattle.record.specs.Codes.{clear};
 ghost use Rattle.record.specs.Record.{RecordRanges};
 ghost use Rattle.codes.specs.Ranges.{longestGap, mostRaise, CodesRanges, codesInRange};
 ghost use Rattle.codes.specs.Target.{target};
-ghost use Rattle.codes.specs.Gap.{gapCodeNext, gapNext};
-ghost use Rattle.codes.specs.Plus.{raiseByCode, raiseNext, codesNext};
+ghost use Rattle.codes.specs.Gap.{interruptedNext, gapNext};
+ghost use Rattle.codes.specs.Plus.{raiseByCode, step3Plus, codesNext};
 use card::Card;
 use record::Keys;
 use record::Record;
@@ -18,7 +18,7 @@ pub struct Codes {
     // the last code
     pub last: u8,
     // k, the code before a gap
-    pub before: u8,
+    pub interrupted: u8,
     // g, the gap in ticks
     pub gap: u8,
     pub raise: u8,
@@ -28,13 +28,13 @@ const LONGEST_GAP: u8 = 51;
 
 const MOST_RAISE: u8 = 4;
 
-pub fn codes_in_range(c: Codes) -> bool
-    ensures { λ x. ⌜ x ≡ codesInRange c ⌝ }
+pub fn codes_in_range(codes: Codes) -> bool
+    ensures { λ x. ⌜ x ≡ codesInRange codes ⌝ }
 {
-    (c.last <= record::CLEAR)
-        & (c.before <= record::CLEAR)
-        & (c.gap <= LONGEST_GAP)
-        & (c.raise <= MOST_RAISE)
+    (codes.last <= record::CLEAR)
+        & (codes.interrupted <= record::CLEAR)
+        & (codes.gap <= LONGEST_GAP)
+        & (codes.raise <= MOST_RAISE)
 }
 
 // T of a code.
@@ -55,62 +55,62 @@ pub fn target(card: Card, code: u8, raise: u8) -> u16
 }
 
 // Step 2: k.
-fn gap_code_next(c: Codes, r: Record) -> u8
-    requires { ⌜ CodesRanges c ⌝ }
-    ensures { λ x. ⌜ (x ≡ gapCodeNext c r) × (x ≤ clear) ⌝ }
+fn interrupted_next(codes: Codes, reading: Record) -> u8
+    requires { ⌜ CodesRanges codes ⌝ }
+    ensures { λ x. ⌜ (x ≡ interruptedNext codes reading) × (x ≤ clear) ⌝ }
 {
-    if r.code == c.last {
-        return c.before;
+    if reading.code == codes.last {
+        return codes.interrupted;
     }
-    if r.code == record::NONE {
-        return c.last;
+    if reading.code == record::NONE {
+        return codes.last;
     }
-    if c.last == record::NONE {
+    if codes.last == record::NONE {
         return 0;
     }
-    c.before
+    codes.interrupted
 }
 
 // Step 2: g.
-fn gap_next(c: Codes, r: Record) -> u8
-    requires { ⌜ CodesRanges c ⌝ }
-    ensures { λ x. ⌜ (x ≡ gapNext c r) × (x ≤ longestGap) ⌝ }
+fn gap_next(codes: Codes, reading: Record) -> u8
+    requires { ⌜ CodesRanges codes ⌝ }
+    ensures { λ x. ⌜ (x ≡ gapNext codes reading) × (x ≤ longestGap) ⌝ }
 {
-    if r.code == c.last {
-        if r.code == record::NONE {
-            if c.gap < LONGEST_GAP {
-                return c.gap + 1;
+    if reading.code == codes.last {
+        if reading.code == record::NONE {
+            if codes.gap < LONGEST_GAP {
+                return codes.gap + 1;
             }
             return LONGEST_GAP;
         }
-        return c.gap;
+        return codes.gap;
     }
-    if r.code == record::NONE {
+    if reading.code == record::NONE {
         return 1;
     }
-    if c.last == record::NONE {
+    if codes.last == record::NONE {
         return 0;
     }
-    c.gap
+    codes.gap
 }
 
-fn raise_by_code(c: Codes, r: Record) -> u8
-    requires { ⌜ CodesRanges c ⌝ }
-    ensures { λ x. ⌜ (x ≡ raiseByCode c r) × (x ≤ mostRaise) ⌝ }
+fn raise_by_code(codes: Codes, reading: Record) -> u8
+    requires { ⌜ CodesRanges codes ⌝ }
+    ensures { λ x. ⌜ (x ≡ raiseByCode codes reading) × (x ≤ mostRaise) ⌝ }
 {
-    if r.code == c.last {
-        return c.raise;
+    if reading.code == codes.last {
+        return codes.raise;
     }
     0
 }
 
 // Step 3.
-fn raise_next(c: Codes, r: Record, k: Keys) -> u8
-    requires { ⌜ CodesRanges c ⌝ }
-    ensures { λ x. ⌜ (x ≡ raiseNext c r k) × (x ≤ mostRaise) ⌝ }
+fn step_3_plus(codes: Codes, reading: Record, keys: Keys) -> u8
+    requires { ⌜ CodesRanges codes ⌝ }
+    ensures { λ x. ⌜ (x ≡ step3Plus codes reading keys) × (x ≤ mostRaise) ⌝ }
 {
-    let raise = raise_by_code(c, r);
-    if k.plus & (r.code == record::FORTY) {
+    let raise = raise_by_code(codes, reading);
+    if keys.plus & (reading.code == record::FORTY) {
         if raise < MOST_RAISE {
             return raise + 1;
         }
@@ -120,16 +120,16 @@ fn raise_next(c: Codes, r: Record, k: Keys) -> u8
 }
 
 // Steps 2 and 3: the codes that the next tick starts from.
-pub fn codes_next(c: Codes, r: Record, k: Keys) -> Codes
-    requires { ⌜ CodesRanges c × RecordRanges r ⌝ }
-    ensures { λ x. ⌜ (x ≡ codesNext c r k) × CodesRanges x ⌝ }
+pub fn codes_next(codes: Codes, reading: Record, keys: Keys) -> Codes
+    requires { ⌜ CodesRanges codes × RecordRanges reading ⌝ }
+    ensures { λ x. ⌜ (x ≡ codesNext codes reading keys) × CodesRanges x ⌝ }
 {
-    let before = gap_code_next(c, r);
-    let gap = gap_next(c, r);
-    let raise = raise_next(c, r, k);
+    let interrupted = interrupted_next(codes, reading);
+    let gap = gap_next(codes, reading);
+    let raise = step_3_plus(codes, reading, keys);
     Codes {
-        last: r.code,
-        before: before,
+        last: reading.code,
+        interrupted: interrupted,
         gap: gap,
         raise: raise,
     }

@@ -10,23 +10,23 @@ use Rattle.card.specs.Card.{CardRanges, mostCycle}
 use Rattle.record.specs.declared.Record.{Record}
 use Rattle.record.specs.declared.Keys.{Keys}
 use Rattle.signal.specs.declared.Signal.{Signal}
-use Rattle.cyclic.specs.declared.Watch.{Watch}
-use Rattle.cyclic.specs.Ranges.{WatchRanges, increased, longestCount}
-use Rattle.cyclic.specs.Watch.{watchKind, cycleLength, watchTicks, watched}
+use Rattle.cyclic.specs.declared.Cyclic.{Cyclic}
+use Rattle.cyclic.specs.Ranges.{CyclicRanges, increased, longestCount}
+use Rattle.cyclic.specs.Cyclic.{cyclicKind, cycleLength, cyclicTicks, step7Cyclic}
 
-pub watch-kind-most : (mode : ℕ) (s : Signal) (r : Record) (k : Keys) → watchKind mode s r k ≤ increased
-unfolding watchKind
-watch-kind-most mode s r k = simp most-iff (omega arith)
+pub cyclic-kind-most : (mode : ℕ) (s : Signal) (r : Record) (k : Keys) → cyclicKind mode s r k ≤ increased
+unfolding cyclicKind
+cyclic-kind-most mode s r k = simp most-iff (omega arith)
 
 module _ (card : Card) (kind : ℕ) (card-good : CardRanges card) where
   cycle-length-most : cycleLength card kind ≤ mostCycle
   unfolding cycleLength
   cycle-length-most = simp most-iff (omega arith)
 
-  module _ (w : Watch) (k : Keys) where
-    pub watch-ticks-most : watchTicks card kind w k ≤ longestCount
-    unfolding watchTicks
-    watch-ticks-most = simp (most-iff, neither-iff) (omega (arith, leb-false, cycle-length-most))
+  module _ (w : Cyclic) (k : Keys) where
+    pub cyclic-ticks-most : cyclicTicks card kind w k ≤ longestCount
+    unfolding cyclicTicks
+    cyclic-ticks-most = simp (most-iff, neither-iff) (omega (arith, leb-false, cycle-length-most))
 
-    pub watched-ranges : kind ≤ increased → WatchRanges (watched card kind w k .watch)
-    watched-ranges p = omega (arith, watch-ticks-most)
+    pub step-7-cyclic-ranges : kind ≤ increased → CyclicRanges (step7Cyclic card kind w k .cyclic)
+    step-7-cyclic-ranges p = omega (arith, cyclic-ticks-most)

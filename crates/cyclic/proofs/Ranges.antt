@@ -4,13 +4,11 @@ use mathlib.Core.Path.{_≡_}
 use mathlib.Core.Bool.{true}
 use native.Mathlib.Omega.{arith}
 use Rattle.numbers.proofs.Tests.{and-iff, leb-iff}
-use Rattle.cyclic.specs.declared.Watch.{Watch}
-use Rattle.cyclic.specs.Ranges.{WatchRanges, watchInRange}
+use Rattle.cyclic.specs.declared.Cyclic.{Cyclic}
+use Rattle.cyclic.specs.Ranges.{CyclicRanges, cyclicInRange}
 
-pub watch-ranges : (w : Watch) → watchInRange w ≡ true → WatchRanges w
-unfolding watchInRange
-watch-ranges w h = omega (arith, simp (and-iff, leb-iff) at h)
+pub cyclic-ranges : (w : Cyclic) → cyclicInRange w ≡ true → CyclicRanges w
+cyclic-ranges w h = omega (arith, simp (and-iff, leb-iff) at h)
 
-pub ranges-watch : (w : Watch) → WatchRanges w → watchInRange w ≡ true
-unfolding watchInRange
-ranges-watch w h = simp (and-iff, leb-iff) (omega arith)
+pub ranges-cyclic : (w : Cyclic) → CyclicRanges w → cyclicInRange w ≡ true
+ranges-cyclic w h = simp (and-iff, leb-iff) (omega arith)

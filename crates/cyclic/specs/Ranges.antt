@@ -2,7 +2,7 @@
 use Prim.Native.Nat.{ℕ, _≤_}
 use mathlib.Core.Bool.{Bool, _&&_}
 use lib.Dec.{leb}
-use Rattle.cyclic.specs.declared.Watch.{Watch}
+use Rattle.cyclic.specs.declared.Cyclic.{Cyclic}
 
 -- the kinds; 0 is none
 abbrev pub ordinary : ℕ
@@ -14,12 +14,12 @@ increased = 2
 abbrev pub longestCount : ℕ
 longestCount = 599
 
-abbrev pub noWatch : Watch
-noWatch = record { kind = 0; ticks = 0 }
+abbrev pub noCyclic : Cyclic
+noCyclic = record { kind = 0; ticks = 0 }
 
-pub record WatchRanges (w : Watch) : Type 0 where
-  pub kind-most : w .kind ≤ increased
-  pub ticks-most : w .ticks ≤ longestCount
+pub record CyclicRanges (cyclic : Cyclic) : Type 0 where
+  pub kind-most : cyclic .kind ≤ increased
+  pub ticks-most : cyclic .ticks ≤ longestCount
 
-unfoldable pub watchInRange : Watch → Bool
-watchInRange w = leb (w .kind) increased && leb (w .ticks) longestCount
+abbrev pub cyclicInRange : Cyclic → Bool
+cyclicInRange cyclic = leb (cyclic .kind) increased && leb (cyclic .ticks) longestCount

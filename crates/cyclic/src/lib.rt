@@ -2,15 +2,15 @@
 ghost use mathlib.Core.Path.{_≡_};
 ghost use Prim.Native.Nat.{_≤_};
 ghost use Rattle.card.specs.Card.{mostCycle, CardRanges};
-ghost use Rattle.cyclic.specs.Ranges.{increased, WatchRanges, watchInRange};
-ghost use Rattle.cyclic.specs.Watch.{eased, asksIncreased, watchKind, increasedCycle, cycleLength, watched};
+ghost use Rattle.cyclic.specs.Ranges.{increased, CyclicRanges, cyclicInRange};
+ghost use Rattle.cyclic.specs.Cyclic.{eased, asksIncreased, cyclicKind, increasedCycle, cycleLength, step7Cyclic};
 use card::Card;
 use record::Keys;
 use record::Record;
 use signal::Signal;
 
 // Cyclic vigilance.
-pub struct Watch {
+pub struct Cyclic {
     // 0 none, 1 ordinary, 2 increased
     pub kind: u8,
     // q, the ticks since it was confirmed
@@ -18,8 +18,8 @@ pub struct Watch {
 }
 
 // What step 7 finds.
-pub struct Cyclic {
-    pub watch: Watch,
+pub struct CyclicStep {
+    pub cyclic: Cyclic,
     // NZ1 is triggered
     pub lapses: bool,
     pub prompts: bool,
@@ -38,49 +38,49 @@ const LONGEST_COUNT: u16 = 599;
 // A prompt shows for the last 35 ticks of its cycle.
 const PROMPT_TICKS: u16 = 35;
 
-pub fn watch_in_range(w: Watch) -> bool
-    ensures { λ x. ⌜ x ≡ watchInRange w ⌝ }
+pub fn cyclic_in_range(cyclic: Cyclic) -> bool
+    ensures { λ x. ⌜ x ≡ cyclicInRange cyclic ⌝ }
 {
-    (w.kind <= INCREASED) & (w.ticks <= LONGEST_COUNT)
+    (cyclic.kind <= INCREASED) & (cyclic.ticks <= LONGEST_COUNT)
 }
 
-fn eased(r: Record, k: Keys) -> bool
-    ensures { λ x. ⌜ x ≡ eased r k ⌝ }
+fn eased(reading: Record, keys: Keys) -> bool
+    ensures { λ x. ⌜ x ≡ eased reading keys ⌝ }
 {
-    (r.v == 0) | (k.brake & (r.v < 150))
+    (reading.v == 0) | (keys.brake & (reading.v < 150))
 }
 
-fn asks_increased(mode: u8, s: Signal, r: Record, k: Keys) -> bool
-    ensures { λ x. ⌜ x ≡ asksIncreased mode s r k ⌝ }
+fn asks_increased(mode: u8, signal: Signal, reading: Record, keys: Keys) -> bool
+    ensures { λ x. ⌜ x ≡ asksIncreased mode signal reading keys ⌝ }
 {
     if mode != record::PRE {
         return false;
     }
-    if 0 < s.man {
+    if 0 < signal.man {
         return true;
     }
-    let eased = eased(r, k);
-    if r.code == record::STOP {
-        return !(0 < s.curve.start) & !eased;
+    let eased = eased(reading, keys);
+    if reading.code == record::STOP {
+        return !(0 < signal.curve.start) & !eased;
     }
-    if r.code == record::FORTY {
-        return (1 <= s.codes.raise) & !eased;
+    if reading.code == record::FORTY {
+        return (1 <= signal.codes.raise) & !eased;
     }
-    if r.code == record::WARNING {
-        return !(0 < s.curve.start) & (900 < r.v);
+    if reading.code == record::WARNING {
+        return !(0 < signal.curve.start) & (900 < reading.v);
     }
     false
 }
 
 // Step 7: which vigilance is asked.
-pub fn watch_kind(mode: u8, s: Signal, r: Record, k: Keys) -> u8
-    ensures { λ x. ⌜ (x ≡ watchKind mode s r k) × (x ≤ increased) ⌝ }
+pub fn cyclic_kind(mode: u8, signal: Signal, reading: Record, keys: Keys) -> u8
+    ensures { λ x. ⌜ (x ≡ cyclicKind mode signal reading keys) × (x ≤ increased) ⌝ }
 {
-    if asks_increased(mode, s, r, k) {
+    if asks_increased(mode, signal, reading, keys) {
         return INCREASED;
     }
-    let eased = eased(r, k);
-    if ((mode == record::PRE) | (mode == record::VYL)) & !eased {
+    let eased = eased(reading, keys);
+    if record::pre_or_vyl(mode) & !eased {
         return ORDINARY;
     }
     0
@@ -96,42 +96,40 @@ fn cycle_length(card: Card, kind: u8) -> u16
     card.cycle
 }
 
-// Step 7: the count, its lapse and its prompt.
-pub fn watched(card: Card, kind: u8, w: Watch, k: Keys) -> Cyclic
-    requires { ⌜ CardRanges card × WatchRanges w × (kind ≤ increased) ⌝ }
-    ensures { λ x. ⌜ (x ≡ watched card kind w k) × WatchRanges (x .watch) ⌝ }
+// Step 7: the count, its lapse and its prompt. A cycle is longer than its prompt, so a count of 0 shows none.
+pub fn step_7_cyclic(card: Card, kind: u8, old: Cyclic, keys: Keys) -> CyclicStep
+    requires { ⌜ CardRanges card × CyclicRanges old × (kind ≤ increased) ⌝ }
+    ensures { λ x. ⌜ (x ≡ step7Cyclic card kind old keys) × CyclicRanges (x .cyclic) ⌝ }
 {
     let length = cycle_length(card, kind);
-    // where the prompt begins
-    let from = length - PROMPT_TICKS;
-    let confirms = k.vigilance & ((kind == ORDINARY) | (85 <= w.ticks));
-    if (kind == 0) | (kind != w.kind) | confirms {
-        return Cyclic {
-            watch: Watch {
+    let confirms = keys.vigilance & ((kind == ORDINARY) | (85 <= old.ticks));
+    if (kind == 0) | (kind != old.kind) | confirms {
+        return CyclicStep {
+            cyclic: Cyclic {
                 kind: kind,
                 ticks: 0,
             },
             lapses: false,
-            prompts: (kind != 0) & (from <= 0),
+            prompts: false,
         };
     }
-    let ticks = w.ticks + 1;
+    let ticks = old.ticks + 1;
     if length <= ticks {
-        return Cyclic {
-            watch: Watch {
+        return CyclicStep {
+            cyclic: Cyclic {
                 kind: kind,
                 ticks: 0,
             },
             lapses: true,
-            prompts: (kind != 0) & (from <= 0),
+            prompts: false,
         };
     }
-    Cyclic {
-        watch: Watch {
+    CyclicStep {
+        cyclic: Cyclic {
             kind: kind,
             ticks: ticks,
         },
         lapses: false,
-        prompts: (kind != 0) & (from <= ticks),
+        prompts: length - PROMPT_TICKS <= ticks,
     }
 }

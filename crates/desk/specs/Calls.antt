@@ -11,7 +11,7 @@ use Rattle.card.specs.Card.{cardInRange}
 use Rattle.record.specs.declared.Sample.{Sample}
 use Rattle.record.specs.Record.{recordWidth, recordBytes}
 use Rattle.record.specs.Sample.{sampleRefusal, sampleRecord}
-use Rattle.rules.specs.declared.Advanced.{Advanced}
+use Rattle.rules.specs.declared.AfterTick.{AfterTick}
 use Rattle.rules.specs.Answer.{noAnswer}
 use Rattle.rules.specs.Tick.{advance}
 use Rattle.rules.specs.After.{after}
@@ -29,8 +29,8 @@ abbrev pub begun : Card → Outcome
 begun card = record { desk = freshDesk card; answer = noAnswer; refusal = 0 }
 
 -- a desk of n ticks, in the state and with the answer that a tick gave
-abbrev pub accepted : Card → ℕ → Advanced → Outcome
-accepted card n a = record { desk = record { card = card; n = n; state = a .state }; answer = a .answer; refusal = 0 }
+abbrev pub accepted : Card → ℕ → AfterTick → Outcome
+accepted card n tick = record { desk = record { card = card; n = n; state = tick .state }; answer = tick .answer; refusal = 0 }
 
 -- opening: 4
 unfoldable pub openOutcome : Card → Outcome
@@ -38,39 +38,39 @@ openOutcome card = cond (not (cardInRange card)) (refused noDesk badCard) (begun
 
 -- 5, 6: whether the desk, with a journal of so many bytes, is fit for a tick or a step back
 unfoldable pub deskRefusal : Desk → ℕ → ℕ
-deskRefusal d bytes = cond (not (deskInRange d)) badDesk (cond (ltb bytes (recordWidth * d .n)) shortJournal 0)
+deskRefusal desk bytes = cond (not (deskInRange desk)) badDesk (cond (ltb bytes (recordWidth * desk .n)) shortJournal 0)
 
 -- tick: 5, 6, 7, then 1, 2, 3 of the sample
 unfoldable pub tickRefusalOf : Desk → ℕ → ℕ → ℕ
-tickRefusalOf d ofSample bytes = firstRefusal (deskRefusal d bytes) (cond (leb (capacity bytes) (d .n)) fullJournal ofSample)
+tickRefusalOf desk ofSample bytes = firstRefusal (deskRefusal desk bytes) (cond (leb (capacity bytes) (desk .n)) fullJournal ofSample)
 
-module _ (d : Desk) (x : Sample) (journal : List ℕ) where
+module _ (desk : Desk) (sample : Sample) (journal : List ℕ) where
   abbrev pub tickRefusal : ℕ
-  tickRefusal = tickRefusalOf d (sampleRefusal x) (length journal)
+  tickRefusal = tickRefusalOf desk (sampleRefusal sample) (length journal)
 
   unfoldable pub tickOutcome : Outcome
   tickOutcome =
-      cond (eqb tickRefusal 0) (accepted (d .card) (d .n + 1) (advance (d .card) (d .state) (sampleRecord x)))
-      (refused d tickRefusal)
+      cond (eqb tickRefusal 0) (accepted (desk .card) (desk .n + 1) (advance (desk .card) (desk .state) (sampleRecord sample)))
+      (refused desk tickRefusal)
 
   -- the record is written to bytes 8n to 8n + 7, no other byte changes
   unfoldable pub tickJournal : List ℕ
-  tickJournal = cond (eqb tickRefusal 0) (written journal (recordWidth * d .n) (recordBytes (sampleRecord x))) journal
+  tickJournal = cond (eqb tickRefusal 0) (written journal (recordWidth * desk .n) (recordBytes (sampleRecord sample))) journal
 
 -- step back: 5, 6, 8, 9
-module _ (d : Desk) (k : ℕ) (journal : List ℕ) where
+module _ (desk : Desk) (k : ℕ) (journal : List ℕ) where
   unfoldable pub backRefusal : ℕ
   backRefusal =
-      firstRefusal (deskRefusal d (length journal))
-      (cond (ltb (d .n) k) backTooFar
-      (cond (not (allInRange journal (d .n - k))) badRecord 0))
+      firstRefusal (deskRefusal desk (length journal))
+      (cond (ltb (desk .n) k) backTooFar
+      (cond (not (allInRange journal (desk .n - k))) badRecord 0))
 
   -- rebuilt from the first n − k records
   unfoldable pub backOutcome : Outcome
   backOutcome =
-      cond (eqb backRefusal 0) (accepted (d .card) (d .n - k) (after (d .card) (records journal) (d .n - k)))
-      (refused d backRefusal)
+      cond (eqb backRefusal 0) (accepted (desk .card) (desk .n - k) (after (desk .card) (records journal) (desk .n - k)))
+      (refused desk backRefusal)
 
 -- restart: 5
 unfoldable pub restartOutcome : Desk → Outcome
-restartOutcome d = cond (not (deskInRange d)) (refused d badDesk) (begun (d .card))
+restartOutcome desk = cond (not (deskInRange desk)) (refused desk badDesk) (begun (desk .card))

@@ -4,21 +4,21 @@ use mathlib.Core.Bool.{Bool, _&&_}
 use lib.Dec.{leb}
 use Rattle.card.specs.declared.Card.{Card}
 use Rattle.card.specs.Card.{CardRanges, cardInRange, noCard}
-use Rattle.state.specs.State.{only, freshState, StateRanges, stateInRange}
+use Rattle.state.specs.State.{modeAlone, freshState, StateRanges, stateInRange}
 use Rattle.desk.specs.declared.Desk.{Desk}
 use Rattle.record.specs.Times.{mostTicks}
 
-pub record DeskRanges (d : Desk) : Type 0 where
-  pub card : CardRanges (d .card)
-  pub n-most : d .n ≤ mostTicks
-  pub state : StateRanges (d .state)
+pub record DeskRanges (desk : Desk) : Type 0 where
+  pub card : CardRanges (desk .card)
+  pub n-most : desk .n ≤ mostTicks
+  pub state : StateRanges (desk .state)
 
 unfoldable pub deskInRange : Desk → Bool
-deskInRange d = cardInRange (d .card) && leb (d .n) mostTicks && stateInRange (d .state)
+deskInRange desk = cardInRange (desk .card) && leb (desk .n) mostTicks && stateInRange (desk .state)
 
 abbrev pub freshDesk : Card → Desk
 freshDesk card = record { card = card; n = 0; state = freshState }
 
 -- a desk of zeros, card and mode included
 abbrev pub noDesk : Desk
-noDesk = record { card = noCard; n = 0; state = only 0 }
+noDesk = record { card = noCard; n = 0; state = modeAlone 0 }

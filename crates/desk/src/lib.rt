@@ -6,7 +6,7 @@ ghost use Rattle.desk.specs.Calls.{refused, begun, accepted, openOutcome
 use card::Card;
 use record::RECORD_WIDTH;
 use record::Sample;
-use rules::Advanced;
+use rules::AfterTick;
 use rules::Answer;
 use state::State;
 
@@ -24,14 +24,16 @@ pub struct Outcome {
     pub refusal: u8,
 }
 
-fn desk_in_range(d: Desk) -> bool
-    ensures { λ x. ⌜ x ≡ deskInRange d ⌝ }
+fn desk_in_range(desk: Desk) -> bool
+    ensures { λ x. ⌜ x ≡ deskInRange desk ⌝ }
 {
-    card::card_in_range(d.card) & (d.n <= record::MOST_TICKS) & state::state_in_range(d.state)
+    card::card_in_range(desk.card)
+        & (desk.n <= record::MOST_TICKS)
+        & state::state_in_range(desk.state)
 }
 
 fn fresh_desk(card: Card) -> Desk
-    ensures { λ d. ⌜ d ≡ freshDesk card ⌝ }
+    ensures { λ desk. ⌜ desk ≡ freshDesk card ⌝ }
 {
     let state = state::fresh_state();
     Desk {
@@ -42,7 +44,7 @@ fn fresh_desk(card: Card) -> Desk
 }
 
 fn no_desk() -> Desk
-    ensures { λ d. ⌜ d ≡ noDesk ⌝ }
+    ensures { λ desk. ⌜ desk ≡ noDesk ⌝ }
 {
     let mut state = state::fresh_state();
     state.mode = 0;
@@ -88,11 +90,11 @@ fn begun(card: Card) -> Outcome
     }
 }
 
-fn accepted(card: Card, n: u16, a: Advanced) -> Outcome
-    ensures { λ x. ⌜ x ≡ accepted card n a ⌝ }
+fn accepted(card: Card, n: u16, tick: AfterTick) -> Outcome
+    ensures { λ x. ⌜ x ≡ accepted card n tick ⌝ }
 {
-    let state = a.state;
-    let answer = a.answer;
+    let state = tick.state;
+    let answer = tick.answer;
     Outcome {
         desk: Desk {
             card: card,
@@ -105,40 +107,40 @@ fn accepted(card: Card, n: u16, a: Advanced) -> Outcome
 }
 
 // 5, 6: `length` is the journal's.
-fn desk_refusal(d: Desk, length: usize) -> u8
-    ensures { λ x. ⌜ x ≡ deskRefusal d length ⌝ }
+fn desk_refusal(desk: Desk, length: usize) -> u8
+    ensures { λ x. ⌜ x ≡ deskRefusal desk length ⌝ }
 {
-    if !desk_in_range(d) {
+    if !desk_in_range(desk) {
         return refusal::BAD_DESK;
     }
-    if length < RECORD_WIDTH * (d.n as usize) {
+    if length < RECORD_WIDTH * (desk.n as usize) {
         return refusal::SHORT_JOURNAL;
     }
     0
 }
 
 // The number of a tick's refusal: `sample` is that of its sample, `length` the journal's.
-fn tick_refusal_of(d: Desk, sample: u8, length: usize) -> u8
-    ensures { λ x. ⌜ x ≡ tickRefusalOf d sample length ⌝ }
+fn tick_refusal_of(desk: Desk, sample: u8, length: usize) -> u8
+    ensures { λ x. ⌜ x ≡ tickRefusalOf desk sample length ⌝ }
 {
-    let first = desk_refusal(d, length);
+    let first = desk_refusal(desk, length);
     if first != 0 {
         return first;
     }
-    if journal::capacity(length) <= d.n as usize {
+    if journal::capacity(length) <= desk.n as usize {
         return refusal::FULL_JOURNAL;
     }
     sample
 }
 
-fn back_refusal(d: Desk, k: u32, journal: &[u8]) -> u8
-    ensures { λ x. ⌜ x ≡ backRefusal d k (now (journal .entry)) ⌝ }
+fn back_refusal(desk: Desk, k: u32, journal: &[u8]) -> u8
+    ensures { λ x. ⌜ x ≡ backRefusal desk k (now (journal .entry)) ⌝ }
 {
-    let first = desk_refusal(d, journal.len());
+    let first = desk_refusal(desk, journal.len());
     if first != 0 {
         return first;
     }
-    let n = d.n as u32;
+    let n = desk.n as u32;
     if n < k {
         return refusal::BACK_TOO_FAR;
     }
@@ -170,9 +172,9 @@ impl Desk {
         let card = self.card;
         let state = self.state;
         let n = self.n as usize;
-        let r = taken.record;
-        record::put_record(journal, RECORD_WIDTH * n, r);
-        accepted(card, self.n + 1, rules::advance(card, state, r))
+        let reading = taken.record;
+        record::put_record(journal, RECORD_WIDTH * n, reading);
+        accepted(card, self.n + 1, rules::advance(card, state, reading))
     }
 
     pub fn step_back(self, k: u32, journal: &[u8]) -> Outcome

@@ -10,7 +10,7 @@ use Rattle.record.specs.Codes.{none}
 use Rattle.record.specs.Modes.{pre}
 use Rattle.record.specs.Flags.{brake, cab}
 use Rattle.record.specs.Record.{recordInRange}
-use Rattle.rules.specs.declared.Advanced.{Advanced}
+use Rattle.rules.specs.declared.AfterTick.{AfterTick}
 use Rattle.rules.specs.After.{after}
 
 abbrev pub cardK : Card
@@ -67,5 +67,5 @@ taken [] = cardInRange cardK
 taken (run ∷ runs) = recordInRange (run .1) && taken runs
 
 -- the state and the answer after the last tick
-unfoldable pub atEnd : Runs → Advanced
+unfoldable pub atEnd : Runs → AfterTick
 atEnd runs = after cardK (drive runs) (ticks runs)

@@ -10,7 +10,7 @@ use Rattle.reading.specs.Bits.{floatOfBits}
 use Rattle.reading.specs.Speed.{speedOf, speedValue}
 use Rattle.record.specs.Codes.{stop, warning, clear}
 use Rattle.record.specs.Flags.{vigilance, man}
-use Rattle.rules.specs.declared.Advanced.{Advanced}
+use Rattle.rules.specs.declared.AfterTick.{AfterTick}
 use Rattle.examples.specs.Drive.{fields, stands, drives, presses, backs, Runs, ticks, taken, atEnd}
 
 -- what the definitions give, and what the paper says it is
@@ -23,7 +23,7 @@ abbrev row : {A : Type 0} → A → List ((A → ℕ) × ℕ) → Row
 row thing claims = record { what = map (λ claim. claim .0 thing) claims; is = map (λ claim. claim .1) claims }
 
 -- claims about the end of a drive, whose ticks are all taken
-abbrev ends : Runs → List ((Advanced → ℕ) × ℕ) → Row
+abbrev ends : Runs → List ((AfterTick → ℕ) × ℕ) → Row
 ends runs claims = row (atEnd runs) ((λ x. cond (taken runs) 1 0, 1) ∷ claims)
 
 -- ---- looks at a float in m/s: the fraction that it is; v
@@ -37,39 +37,39 @@ abbrev tenths : Float → ℕ
 tenths x = speedValue (speedOf x)
 
 -- ---- looks at the answer: P; T; marks, where a curve is 2, a one-time prompt 8 and its kind 1 adds 16; causes, where NZ2 is 2 and NZ3 is 4; lowest cause
-abbrev permitted : Advanced → ℕ
+abbrev permitted : AfterTick → ℕ
 permitted x = x .answer .permitted
 
-abbrev target : Advanced → ℕ
+abbrev target : AfterTick → ℕ
 target x = x .answer .target
 
-abbrev marks : Advanced → ℕ
+abbrev marks : AfterTick → ℕ
 marks x = x .answer .marks
 
-abbrev causes : Advanced → ℕ
+abbrev causes : AfterTick → ℕ
 causes x = x .answer .causes
 
-abbrev lowest : Advanced → ℕ
+abbrev lowest : AfterTick → ℕ
 lowest x = x .answer .lowest
 
 -- ---- looks at the state: V0, c and w of the curve; M; kind and q of cyclic vigilance
-abbrev start : Advanced → ℕ
+abbrev start : AfterTick → ℕ
 start x = x .state .signal .curve .start
 
-abbrev age : Advanced → ℕ
+abbrev age : AfterTick → ℕ
 age x = x .state .signal .curve .age
 
-abbrev given : Advanced → ℕ
-given x = x .state .signal .curve .given
+abbrev given : AfterTick → ℕ
+given x = x .state .signal .curve .prompted
 
-abbrev manSpeed : Advanced → ℕ
+abbrev manSpeed : AfterTick → ℕ
 manSpeed x = x .state .signal .man
 
-abbrev kind : Advanced → ℕ
-kind x = x .state .watch .kind
+abbrev kind : AfterTick → ℕ
+kind x = x .state .cyclic .kind
 
-abbrev count : Advanced → ℕ
-count x = x .state .watch .ticks
+abbrev count : AfterTick → ℕ
+count x = x .state .cyclic .ticks
 
 -- ---- the drives
 

@@ -10,7 +10,7 @@ use lib.ListN.{length, take, drop, length-drop}
 use lib.Seq.{take-append-le, drop-append-le, drop-at}
 use Rattle.card.specs.declared.Card.{Card}
 use Rattle.record.specs.declared.Record.{Record}
-use Rattle.rules.specs.declared.Advanced.{Advanced}
+use Rattle.rules.specs.declared.AfterTick.{AfterTick}
 use Rattle.rules.specs.After.{after}
 use Rattle.rules.proofs.After.{after-same}
 use Rattle.desk.specs.declared.Desk.{Desk}
@@ -48,7 +48,7 @@ module _ (card : Card) (H : ℕ → Record) where
   rebuilt-answer d back J taken same held =
       ap (λ (x : Outcome). x .answer) (back-yes d back J taken)
       ∙ ap (λ (c : Card). after c (records J) (d .n - back) .answer) same
-      ∙ ap (λ (x : Advanced). x .answer) (after-same card (records J) H (d .n - back) held)
+      ∙ ap (λ (x : AfterTick). x .answer) (after-same card (records J) H (d .n - back) held)
 
   pub as-rebuilt : (m j : ℕ) → j < m → (d : Desk) (back : ℕ) (J : List ℕ) → backRefusal d back J ≡ 0 → d .card ≡ card → d .n - back ≡ suc j
       → ((i : ℕ) → i < suc j → records J i ≡ H i) → answerAt (answers card H m) j ≡ answerBytes (backOutcome d back J .answer)

@@ -6,7 +6,7 @@ use lib.Dec.{leb, ltb, eqb}
 use lib.ListN.{length}
 use Rattle.layout.specs.Layout.{written}
 use Rattle.refusal.specs.Refusal.{shortBuffer, noSuchCard, firstRefusal}
-use Rattle.file.specs.declared.Ran.{Ran}
+use Rattle.file.specs.declared.Total.{Total}
 use Rattle.file.specs.File.{cardCount, runCount, cardIn}
 use Rattle.file.specs.Runs.{runsRefusal}
 use Rattle.file.specs.Read.{tickCount, drive, headRefusal}
@@ -23,7 +23,7 @@ module _ (file : List ℕ) (card room : ℕ) where
       (firstRefusal (runsRefusal file (runCount file))
       (cond (ltb room (answerWidth * tickCount file)) shortBuffer 0)))
 
-  unfoldable pub exerciseOutcome : Ran
+  unfoldable pub exerciseOutcome : Total
   exerciseOutcome =
       cond (eqb exerciseRefusal 0) (record { refusal = 0; ticks = tickCount file }) (record { refusal = exerciseRefusal; ticks = 0 })
 

@@ -12,31 +12,31 @@ ghost use Rattle.exercise.specs.Answers.{answers};
 ghost use Rattle.exercise.specs.Run.{exerciseOutcome, exerciseBuffer};
 use card::CARD_WIDTH;
 use card::Card;
-use file::Ran;
+use file::Total;
 use layout::u16_at;
-use rules::Advanced;
+use rules::AfterTick;
 
 const ANSWER_WIDTH: usize = 8;
 
 // The outcome of a run into a buffer of so many bytes.
-fn exercise_outcome(file: &[u8], card: u32, room: usize) -> Ran
+fn exercise_outcome(file: &[u8], card: u32, room: usize) -> Total
     ensures { λ x. ⌜ x ≡ exerciseOutcome (now (file .entry)) card room ⌝ }
 {
     let refusal = file::head_refusal(file);
     if refusal != 0 {
-        return Ran {
+        return Total {
             refusal: refusal,
             ticks: 0,
         };
     }
     if card < 1 {
-        return Ran {
+        return Total {
             refusal: refusal::NO_SUCH_CARD,
             ticks: 0,
         };
     }
     if (u16_at(file, 0, 0) as u32) < card {
-        return Ran {
+        return Total {
             refusal: refusal::NO_SUCH_CARD,
             ticks: 0,
         };
@@ -46,7 +46,7 @@ fn exercise_outcome(file: &[u8], card: u32, room: usize) -> Ran
         return runs;
     }
     if room < ANSWER_WIDTH * (runs.ticks as usize) {
-        return Ran {
+        return Total {
             refusal: refusal::SHORT_BUFFER,
             ticks: 0,
         };
@@ -55,7 +55,7 @@ fn exercise_outcome(file: &[u8], card: u32, room: usize) -> Ran
 }
 
 // Writes the answer of a tick in the 8 bytes from `at`.
-fn put_answer(buffer: &mut [u8], at: usize, tick: Advanced)
+fn put_answer(buffer: &mut [u8], at: usize, tick: AfterTick)
     requires { ⌜ at + answerWidth ≤ length (now buffer) ⌝ }
     ensures { λ _. ⌜ now (buffer .exit) ≡ written (now (buffer .entry)) at (answerBytes (tick .answer)) ⌝ }
 {
@@ -99,7 +99,7 @@ fn answer_all(file: &[u8], card: Card, buffer: &mut [u8])
 }
 
 // Runs the exercise under a card, counted from 1, into the buffer: eight bytes a tick.
-pub fn run(file: &[u8], card: u32, buffer: &mut [u8]) -> Ran
+pub fn run(file: &[u8], card: u32, buffer: &mut [u8]) -> Total
     ensures outcome { λ x. ⌜ x ≡ exerciseOutcome (now (file .entry)) card (length (now (buffer .entry))) ⌝ }
     ensures buffer { λ x. ⌜ now (buffer .exit) ≡ exerciseBuffer (now (file .entry)) card (now (buffer .entry)) ⌝ }
 {

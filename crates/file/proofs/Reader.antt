@@ -11,7 +11,7 @@ use Rattle.refusal.specs.Refusal.{badCard, badFile}
 use Rattle.refusal.proofs.First.{first-zero, first-some}
 use Rattle.file.specs.File.{headerGood, cardCount, runCount, cardsInRange}
 use Rattle.file.specs.Runs.{ticksTo, runsRefusal}
-use Rattle.file.specs.declared.Ran.{Ran}
+use Rattle.file.specs.declared.Total.{Total}
 use Rattle.file.proofs.Runs.{fault, runs-first}
 use Rattle.file.specs.Read.{tickCount, runsRead, headRefusal, readRefusal, readOutcome}
 
@@ -42,13 +42,13 @@ module _ (file : List ℕ) where
 
   -- at the first fault, and at the end
   pub runs-stopped : (runs j q : ℕ) → runs ≡ runCount file → j < runs → runsRefusal file j ≡ 0 → q ≡ fault file j → (q ≡ 0 → ⊥)
-      → _≡_ {A = Ran} (record { refusal = q; ticks = 0 }) (runsRead file)
+      → _≡_ {A = Total} (record { refusal = q; ticks = 0 }) (runsRead file)
   runs-stopped m j q n l h e f =
       let all : runsRefusal file (runCount file) ≡ q = ap (runsRefusal file) (sym n) ∙ runs-first file j m l h (λ z. f (e ∙ z)) ∙ sym e in
       sym (runs-no (λ z. f (sym all ∙ z)) ∙ ap (λ (x : ℕ). record { refusal = x; ticks = 0 }) all)
 
   pub runs-done : (runs j sum : ℕ) → runs ≡ runCount file → j ≡ runs → sum ≡ ticksTo file j → runsRefusal file j ≡ 0
-      → _≡_ {A = Ran} (record { refusal = 0; ticks = sum }) (runsRead file)
+      → _≡_ {A = Total} (record { refusal = 0; ticks = sum }) (runsRead file)
   runs-done m j sum n l e h =
       let at : j ≡ runCount file = l ∙ n in
       ap (λ (x : ℕ). record { refusal = 0; ticks = x }) (e ∙ ap (ticksTo file) at) ∙ sym (runs-yes (rw at at h))

@@ -6,7 +6,7 @@ use lib.Dec.{eqb}
 use Rattle.refusal.specs.Refusal.{badCard, badFile, firstRefusal}
 use Rattle.record.specs.declared.Record.{Record}
 use Rattle.file.specs.declared.Counts.{Counts}
-use Rattle.file.specs.declared.Ran.{Ran}
+use Rattle.file.specs.declared.Total.{Total}
 use Rattle.file.specs.File.{headerGood, cardCount, runCount, cardsInRange}
 use Rattle.file.specs.Runs.{ticksTo, runsRefusal, tickRecord}
 
@@ -19,7 +19,7 @@ module _ (file : List ℕ) where
   drive = tickRecord file (runCount file)
 
   -- the runs, and their ticks unless one is refused
-  unfoldable pub runsRead : Ran
+  unfoldable pub runsRead : Total
   runsRead =
       cond (eqb (runsRefusal file (runCount file)) 0) (record { refusal = 0; ticks = tickCount })
       (record { refusal = runsRefusal file (runCount file); ticks = 0 })

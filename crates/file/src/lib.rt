@@ -19,7 +19,7 @@ pub struct Counts {
 }
 
 // What the runs, or a whole exercise, came to: the number of the refusal, 0 where there is none, and the ticks.
-pub struct Ran {
+pub struct Total {
     pub refusal: u8,
     pub ticks: u16,
 }
@@ -127,7 +127,7 @@ fn run_fault(before: usize, ticks: usize, r: Record) -> u8
 }
 
 // The runs, each in turn.
-pub fn runs_read(file: &[u8]) -> Ran
+pub fn runs_read(file: &[u8]) -> Total
     ensures { λ x. ⌜ x ≡ runsRead (now (file .entry)) ⌝ }
 {
     let runs = run_count(file);
@@ -137,7 +137,7 @@ pub fn runs_read(file: &[u8]) -> Ran
         let ticks = run_ticks(file, j);
         let fault = run_fault(sum, ticks, run_record(file, j));
         if fault != 0 {
-            return Ran {
+            return Total {
                 refusal: fault,
                 ticks: 0,
             };
@@ -145,7 +145,7 @@ pub fn runs_read(file: &[u8]) -> Ran
         sum += ticks;
         j += 1;
     }
-    Ran {
+    Total {
         refusal: 0,
         ticks: sum as u16,
     }

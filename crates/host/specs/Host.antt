@@ -2,7 +2,7 @@
 use Prim.Native.Nat.{ℕ, _+_}
 use mathlib.Core.Bool.{cond}
 use lib.Dec.{eqb}
-use Rattle.file.specs.declared.Ran.{Ran}
+use Rattle.file.specs.declared.Total.{Total}
 
-unfoldable pub hostNumber : Ran → ℕ
+unfoldable pub hostNumber : Total → ℕ
 hostNumber ran = cond (eqb (ran .refusal) 0) (ran .ticks) (10000 + ran .refusal)

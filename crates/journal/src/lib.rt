@@ -9,7 +9,7 @@ ghost use Rattle.rules.specs.After.{after};
 ghost use Rattle.journal.specs.Journal.{capacity, records, allInRange};
 use card::Card;
 use record::RECORD_WIDTH;
-use rules::Advanced;
+use rules::AfterTick;
 
 // How many ticks a journal of so many bytes takes.
 pub fn capacity(length: usize) -> usize
@@ -38,7 +38,7 @@ pub fn all_in_range(journal: &[u8], m: usize) -> bool
 }
 
 // A fresh state fed the journal's first m records, with the last answer.
-pub fn rebuilt(card: Card, journal: &[u8], m: usize) -> Advanced
+pub fn rebuilt(card: Card, journal: &[u8], m: usize) -> AfterTick
     requires { ⌜ CardRanges card ⌝ }
     requires { ⌜ recordWidth * m ≤ length (now journal) ⌝ }
     requires { ⌜ allInRange (now journal) m ≡ true ⌝ }
@@ -46,14 +46,14 @@ pub fn rebuilt(card: Card, journal: &[u8], m: usize) -> Advanced
 {
     let state = state::fresh_state();
     let answer = rules::no_answer();
-    let mut last = Advanced {
+    let mut last = AfterTick {
         state: state,
         answer: answer,
     };
     let mut i = 0;
     while i < m {
-        let s = last.state;
-        last = rules::advance(card, s, record::record_at(journal, RECORD_WIDTH * i));
+        let state = last.state;
+        last = rules::advance(card, state, record::record_at(journal, RECORD_WIDTH * i));
         i += 1;
     }
     last

@@ -9,10 +9,10 @@ use Rattle.card.specs.Card.{CardRanges, longWait}
 use Rattle.card.proofs.Ranges.{wait-between}
 use Rattle.record.specs.declared.Record.{Record}
 use Rattle.record.specs.declared.Keys.{Keys}
-use Rattle.motion.specs.Direction.{farthest, wrongwayNow}
+use Rattle.motion.specs.Direction.{mostWrongway, wrongwayNow}
 use Rattle.motion.specs.Standing.{counted, standingNow}
 
-pub wrongway-now-most : (mode : ℕ) (r : Record) (k : Keys) (d : ℕ) → d ≤ farthest → wrongwayNow mode r k d ≤ farthest
+pub wrongway-now-most : (mode : ℕ) (r : Record) (k : Keys) (d : ℕ) → d ≤ mostWrongway → wrongwayNow mode r k d ≤ mostWrongway
 unfolding wrongwayNow
 wrongway-now-most mode r k d p = simp most-iff (omega arith)
 

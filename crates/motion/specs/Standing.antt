@@ -7,24 +7,24 @@ use Rattle.card.specs.declared.Card.{Card}
 use Rattle.record.specs.declared.Record.{Record}
 use Rattle.record.specs.declared.Keys.{Keys}
 use Rattle.record.specs.Modes.{preOrVyl}
-use Rattle.motion.specs.declared.Stood.{Stood}
+use Rattle.motion.specs.declared.StandingStep.{StandingStep}
 
 -- v = 0, direct brake off and band 2
 abbrev pub unbraked : Record → Keys → Bool
-unbraked r keys = eqb (r .v) 0 && not (keys .brake) && eqb (r .band) topBand
+unbraked reading keys = eqb (reading .v) 0 && not (keys .brake) && eqb (reading .band) topBand
 
 -- held: NZ5 was held before this tick
-module _ (card : Card) (mode : ℕ) (r : Record) (keys : Keys) (held : Bool) (h : ℕ) where
+module _ (card : Card) (mode : ℕ) (reading : Record) (keys : Keys) (held : Bool) (standing : ℕ) where
   -- with v = 0, direct brake off and band 2, h = min(wait, h + 1), else h = 0
   unfoldable pub counted : ℕ
-  counted = cond (unbraked r keys) (min (card .wait) (h + 1)) 0
+  counted = cond (unbraked reading keys) (min (card .wait) (standing + 1)) 0
 
   abbrev pub pressedWhileHeld : Bool
   pressedWhileHeld = keys .vigilance && held
 
   -- a vigilance press while NZ5 is held sets h = 0; other modes keep h
   unfoldable pub standingNow : ℕ
-  standingNow = cond (preOrVyl mode) (cond pressedWhileHeld 0 counted) h
+  standingNow = cond (preOrVyl mode) (cond pressedWhileHeld 0 counted) standing
 
   -- h = wait triggers
   unfoldable pub standingTriggers : Bool
@@ -34,5 +34,5 @@ module _ (card : Card) (mode : ℕ) (r : Record) (keys : Keys) (held : Bool) (h 
   unfoldable pub standingSounds : Bool
   standingSounds = preOrVyl mode && leb (card .wait - 100) standingNow
 
-  abbrev pub parked : Stood
-  parked = record { standing = standingNow; triggers = standingTriggers; sounds = standingSounds }
+  abbrev pub step9Standing : StandingStep
+  step9Standing = record { standing = standingNow; triggers = standingTriggers; sounds = standingSounds }

@@ -3,87 +3,91 @@ ghost use mathlib.Core.Path.{_≡_};
 ghost use Prim.Native.Nat.{_≤_};
 ghost use Rattle.card.specs.Card.{longWait, CardRanges};
 ghost use Rattle.record.specs.Record.{RecordRanges};
-ghost use Rattle.motion.specs.Direction.{farthest, agrees, driven};
-ghost use Rattle.motion.specs.Standing.{parked};
+ghost use Rattle.motion.specs.Direction.{mostWrongway, agrees, step9Direction};
+ghost use Rattle.motion.specs.Standing.{step9Standing};
 use card::Card;
 use record::Keys;
 use record::Record;
 
 // The wrong-way distance d after step 9, and whether it triggers NZ3.
-pub struct Moved {
+pub struct DirectionStep {
     pub wrongway: u16,
     pub triggers: bool,
 }
 
 // The standing h after step 9, whether it triggers NZ5, and whether ZS20 sounds.
-pub struct Stood {
+pub struct StandingStep {
     pub standing: u16,
     pub triggers: bool,
     pub sounds: bool,
 }
 
 // The wrong-way distance that triggers NZ3.
-pub const FARTHEST: u16 = 3600;
+pub const MOST_WRONGWAY: u16 = 3600;
 
-fn agrees(r: Record, k: Keys) -> bool
-    ensures { λ x. ⌜ x ≡ agrees r k ⌝ }
+// ZS20 sounds for so many ticks before NZ5.
+const ZS20_TICKS: u16 = 100;
+
+fn agrees(reading: Record, keys: Keys) -> bool
+    ensures { λ x. ⌜ x ≡ agrees reading keys ⌝ }
 {
-    k.cab & (r.lever == r.sense) & (r.lever != 0)
+    keys.cab & (reading.lever == reading.sense) & (reading.lever != 0)
 }
 
 // Step 9, NZ3.
-pub fn driven(mode: u8, r: Record, k: Keys, d: u16) -> Moved
-    requires { ⌜ RecordRanges r × (d ≤ farthest) ⌝ }
-    ensures { λ x. ⌜ (x ≡ driven mode r k d) × (x .wrongway ≤ farthest) ⌝ }
+pub fn step_9_direction(mode: u8, reading: Record, keys: Keys, wrongway: u16) -> DirectionStep
+    requires { ⌜ RecordRanges reading × (wrongway ≤ mostWrongway) ⌝ }
+    ensures { λ x. ⌜ (x ≡ step9Direction mode reading keys wrongway) × (x .wrongway ≤ mostWrongway) ⌝ }
 {
-    if ((mode == record::PRE) | (mode == record::VYL)) & (0 < r.v) {
-        if agrees(r, k) {
-            return Moved {
+    if record::pre_or_vyl(mode) & (0 < reading.v) {
+        if agrees(reading, keys) {
+            return DirectionStep {
                 wrongway: 0,
                 triggers: false,
             };
         }
-        let far = numbers::lesser(FARTHEST, d + r.v);
-        return Moved {
+        let far = numbers::lesser(MOST_WRONGWAY, wrongway + reading.v);
+        return DirectionStep {
             wrongway: far,
-            triggers: far == FARTHEST,
+            triggers: far == MOST_WRONGWAY,
         };
     }
-    Moved {
-        wrongway: d,
+    DirectionStep {
+        wrongway: wrongway,
         triggers: false,
     }
 }
 
-// Step 9, NZ5.
-pub fn parked(card: Card, mode: u8, r: Record, k: Keys, held: bool, h: u16) -> Stood
-    requires { ⌜ CardRanges card × (h ≤ longWait) ⌝ }
-    ensures { λ x. ⌜ (x ≡ parked card mode r k held h) × (x .standing ≤ longWait) ⌝ }
+// Step 9, NZ5. A wait is longer than ZS20, so a count of 0 neither triggers nor sounds.
+pub fn step_9_standing(
+    card: Card,
+    mode: u8,
+    reading: Record,
+    keys: Keys,
+    held: bool,
+    standing: u16,
+) -> StandingStep
+    requires { ⌜ CardRanges card × (standing ≤ longWait) ⌝ }
+    ensures { λ x. ⌜ (x ≡ step9Standing card mode reading keys held standing) × (x .standing ≤ longWait) ⌝ }
 {
-    if (mode == record::PRE) | (mode == record::VYL) {
-        if k.vigilance & held {
-            return Stood {
-                standing: 0,
-                triggers: 0 == card.wait,
-                sounds: card.wait - 100 <= 0,
+    if record::pre_or_vyl(mode) {
+        let unbraked = (reading.v == 0) & !keys.brake & (reading.band == record::TOP_BAND);
+        if unbraked & !(keys.vigilance & held) {
+            let count = numbers::lesser(card.wait, standing + 1);
+            return StandingStep {
+                standing: count,
+                triggers: count == card.wait,
+                sounds: card.wait - ZS20_TICKS <= count,
             };
         }
-        if (r.v == 0) & !k.brake & (r.band == 2) {
-            let long = numbers::lesser(card.wait, h + 1);
-            return Stood {
-                standing: long,
-                triggers: long == card.wait,
-                sounds: card.wait - 100 <= long,
-            };
-        }
-        return Stood {
+        return StandingStep {
             standing: 0,
-            triggers: 0 == card.wait,
-            sounds: card.wait - 100 <= 0,
+            triggers: false,
+            sounds: false,
         };
     }
-    Stood {
-        standing: h,
+    StandingStep {
+        standing: standing,
         triggers: false,
         sounds: false,
     }

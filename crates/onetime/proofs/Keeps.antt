@@ -9,32 +9,31 @@ use Rattle.numbers.proofs.Choice.{most-iff}
 use Rattle.numbers.proofs.Tests.{and-iff, not-iff}
 use Rattle.card.specs.declared.Card.{Card}
 use Rattle.record.specs.declared.Keys.{Keys}
-use Rattle.record.specs.Times.{promptTicks}
 use Rattle.signal.specs.declared.Curve.{Curve}
-use Rattle.onetime.specs.declared.Once.{Once}
-use Rattle.onetime.specs.Ranges.{OneTimeRanges}
-use Rattle.onetime.specs.Once.{onceStays, asksAhead, asksAtStart, onceTicks, onceKind, givenNext, asked}
+use Rattle.onetime.specs.declared.Prompt.{Prompt}
+use Rattle.onetime.specs.Ranges.{mostPrompt, OneTimeStepRanges}
+use Rattle.onetime.specs.OneTime.{promptStays, asksAhead, asksAtStart, promptTicksNext, promptKindNext, promptedNext, step8OneTime}
 
-module _ (card : Card) (curve : Curve) (begins : Bool) (t v : ℕ) (k : Keys) (o : Once) where
-  pub once-ticks-most : onceTicks card curve begins t v k o ≤ promptTicks
-  unfolding onceTicks onceStays
-  once-ticks-most = simp (most-iff, and-iff, not-iff) (omega (arith, leb-false))
+module _ (card : Card) (curve : Curve) (begins : Bool) (t v : ℕ) (k : Keys) (o : Prompt) where
+  pub prompt-ticks-most : promptTicksNext card curve begins t v k o ≤ mostPrompt
+  unfolding promptTicksNext promptStays
+  prompt-ticks-most = simp (most-iff, and-iff, not-iff) (omega (arith, leb-false))
 
-  pub once-kind-most : o .kind ≤ 1 → onceKind card curve begins t v k o ≤ 1
-  unfolding onceKind
-  once-kind-most p = simp most-iff (omega arith)
+  pub prompt-kind-most : o .kind ≤ 1 → promptKindNext card curve begins t v k o ≤ 1
+  unfolding promptKindNext
+  prompt-kind-most p = simp most-iff (omega arith)
 
-  pub given-next-most : curve .given ≤ 1 → givenNext card curve begins t v k o ≤ 1
-  unfolding givenNext
-  given-next-most p = simp most-iff (omega arith)
+  pub prompted-next-most : curve .prompted ≤ 1 → promptedNext card curve begins t v k o ≤ 1
+  unfolding promptedNext
+  prompted-next-most p = simp most-iff (omega arith)
 
-  pub asked-ranges : curve .given ≤ 1 → o .kind ≤ 1 → OneTimeRanges (asked card curve begins t v k o)
-  asked-ranges p q = omega (arith, once-ticks-most, once-kind-most q, given-next-most p)
+  pub step-8-one-time-ranges : curve .prompted ≤ 1 → o .kind ≤ 1 → OneTimeStepRanges (step8OneTime card curve begins t v k o)
+  step-8-one-time-ranges p q = omega (arith, prompt-ticks-most, prompt-kind-most q, prompted-next-most p)
 
   -- when u is 0 its kind is 0
-  pub kind-quiet : onceTicks card curve begins t v k o ≡ 0 → onceKind card curve begins t v k o ≡ 0
-  unfolding onceTicks onceKind
-  kind-quiet e = go (onceStays k o) (asksAhead card curve begins t v k o) (asksAtStart card curve begins t v k o) e
+  pub kind-quiet : promptTicksNext card curve begins t v k o ≡ 0 → promptKindNext card curve begins t v k o ≡ 0
+  unfolding promptTicksNext promptKindNext
+  kind-quiet e = go (promptStays k o) (asksAhead card curve begins t v k o) (asksAtStart card curve begins t v k o) e
     where
       go : (stays ahead start : Bool) → _≡_ {A = ℕ} (cond stays (o .ticks + 1) (cond (ahead || start) 1 0)) 0 → cond stays (o .kind) (cond ahead 1 0) ≡ 0
       go true ahead start z = absurd (omega arith)

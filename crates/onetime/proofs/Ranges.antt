@@ -4,13 +4,11 @@ use mathlib.Core.Path.{_≡_}
 use mathlib.Core.Bool.{true}
 use native.Mathlib.Omega.{arith}
 use Rattle.numbers.proofs.Tests.{and-iff, leb-iff}
-use Rattle.onetime.specs.declared.Once.{Once}
-use Rattle.onetime.specs.Ranges.{OnceRanges, onceInRange}
+use Rattle.onetime.specs.declared.Prompt.{Prompt}
+use Rattle.onetime.specs.Ranges.{PromptRanges, promptInRange}
 
-pub once-ranges : (o : Once) → onceInRange o ≡ true → OnceRanges o
-unfolding onceInRange
-once-ranges o h = omega (arith, simp (and-iff, leb-iff) at h)
+pub prompt-ranges : (o : Prompt) → promptInRange o ≡ true → PromptRanges o
+prompt-ranges o h = omega (arith, simp (and-iff, leb-iff) at h)
 
-pub ranges-once : (o : Once) → OnceRanges o → onceInRange o ≡ true
-unfolding onceInRange
-ranges-once o h = simp (and-iff, leb-iff) (omega arith)
+pub ranges-prompt : (o : Prompt) → PromptRanges o → promptInRange o ≡ true
+ranges-prompt o h = simp (and-iff, leb-iff) (omega arith)

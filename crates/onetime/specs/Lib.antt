@@ -1,2 +1,2 @@
 pub mod Ranges
-pub mod Once
+pub mod OneTime

@@ -4,14 +4,14 @@ ghost use Prim.Native.Nat.{_≤_};
 ghost use Rattle.card.specs.Card.{CardRanges};
 ghost use Rattle.reading.specs.Speed.{topSpeed};
 ghost use Rattle.signal.specs.Ranges.{CurveRanges};
-ghost use Rattle.onetime.specs.Ranges.{OnceRanges, OneTimeRanges, onceInRange};
-ghost use Rattle.onetime.specs.Once.{lead, exceeds, dueAhead, dueAtStart, asked};
+ghost use Rattle.onetime.specs.Ranges.{PromptRanges, OneTimeStepRanges, promptInRange};
+ghost use Rattle.onetime.specs.OneTime.{lead, exceeds, dueAhead, dueAtStart, step8OneTime};
 use card::Card;
 use record::Keys;
 use signal::Curve;
 
-// One-time vigilance.
-pub struct Once {
+// The prompt of one-time vigilance.
+pub struct Prompt {
     // u, 1 from the tick in which the prompt comes; 0: no prompt
     pub ticks: u8,
     // 0 at the curve's start, 1 ahead of the curve
@@ -19,21 +19,24 @@ pub struct Once {
 }
 
 // What step 8 finds.
-pub struct OneTime {
-    pub once: Once,
+pub struct OneTimeStep {
+    pub prompt: Prompt,
     // w of the curve
-    pub given: u8,
+    pub prompted: u8,
     // NZ1 is triggered
     pub lapses: bool,
 }
 
-// A prompt's u, 1 when it comes, lapses when it comes to 35.
-const PROMPT_TICKS: u8 = 35;
+// The most that a desk holds as u.
+const MOST_PROMPT: u8 = 35;
 
-pub fn once_in_range(o: Once) -> bool
-    ensures { λ x. ⌜ x ≡ onceInRange o ⌝ }
+// A prompt lapses when its u comes to this.
+const LAPSE: u8 = 35;
+
+pub fn prompt_in_range(prompt: Prompt) -> bool
+    ensures { λ x. ⌜ x ≡ promptInRange prompt ⌝ }
 {
-    (o.ticks <= PROMPT_TICKS) & (o.kind <= 1)
+    (prompt.ticks <= MOST_PROMPT) & (prompt.kind <= 1)
 }
 
 fn lead(card: Card) -> u16
@@ -57,7 +60,7 @@ fn due_ahead(card: Card, curve: Curve, t: u16, v: u16) -> bool
     requires { ⌜ CardRanges card × CurveRanges curve × (t ≤ topSpeed) ⌝ }
     ensures { λ x. ⌜ x ≡ dueAhead card curve t v ⌝ }
 {
-    if curve.given == 0 {
+    if curve.prompted == 0 {
         let lead = lead(card);
         return exceeds(card, curve, t, v, curve.age + lead);
     }
@@ -78,58 +81,66 @@ fn due_at_start(card: Card, curve: Curve, begins: bool, t: u16, v: u16) -> bool
 }
 
 // Step 8.
-pub fn asked(card: Card, curve: Curve, begins: bool, t: u16, v: u16, k: Keys, o: Once) -> OneTime
-    requires { ⌜ CardRanges card × CurveRanges curve × (t ≤ topSpeed) × OnceRanges o ⌝ }
-    ensures { λ x. ⌜ (x ≡ asked card curve begins t v k o) × OneTimeRanges x ⌝ }
+pub fn step_8_one_time(
+    card: Card,
+    curve: Curve,
+    begins: bool,
+    t: u16,
+    v: u16,
+    keys: Keys,
+    prompt: Prompt,
+) -> OneTimeStep
+    requires { ⌜ CardRanges card × CurveRanges curve × (t ≤ topSpeed) × PromptRanges prompt ⌝ }
+    ensures { λ x. ⌜ (x ≡ step8OneTime card curve begins t v keys prompt) × OneTimeStepRanges x ⌝ }
 {
-    if 0 < o.ticks {
-        if k.vigilance {
-            return OneTime {
-                once: Once { ticks: 0, kind: 0 },
-                given: curve.given,
+    if 0 < prompt.ticks {
+        if keys.vigilance {
+            return OneTimeStep {
+                prompt: Prompt { ticks: 0, kind: 0 },
+                prompted: curve.prompted,
                 lapses: false,
             };
         }
-        if PROMPT_TICKS <= o.ticks + 1 {
-            return OneTime {
-                once: Once { ticks: 0, kind: 0 },
-                given: curve.given,
+        if LAPSE <= prompt.ticks + 1 {
+            return OneTimeStep {
+                prompt: Prompt { ticks: 0, kind: 0 },
+                prompted: curve.prompted,
                 lapses: true,
             };
         }
-        return OneTime {
-            once: Once {
-                ticks: o.ticks + 1,
-                kind: o.kind,
+        return OneTimeStep {
+            prompt: Prompt {
+                ticks: prompt.ticks + 1,
+                kind: prompt.kind,
             },
-            given: curve.given,
+            prompted: curve.prompted,
             lapses: false,
         };
     }
     if 0 < curve.start {
         if due_ahead(card, curve, t, v) {
-            return OneTime {
-                once: Once { ticks: 1, kind: 1 },
-                given: 1,
+            return OneTimeStep {
+                prompt: Prompt { ticks: 1, kind: 1 },
+                prompted: 1,
                 lapses: false,
             };
         }
         if due_at_start(card, curve, begins, t, v) {
-            return OneTime {
-                once: Once { ticks: 1, kind: 0 },
-                given: curve.given,
+            return OneTimeStep {
+                prompt: Prompt { ticks: 1, kind: 0 },
+                prompted: curve.prompted,
                 lapses: false,
             };
         }
-        return OneTime {
-            once: Once { ticks: 0, kind: 0 },
-            given: curve.given,
+        return OneTimeStep {
+            prompt: Prompt { ticks: 0, kind: 0 },
+            prompted: curve.prompted,
             lapses: false,
         };
     }
-    OneTime {
-        once: Once { ticks: 0, kind: 0 },
-        given: curve.given,
+    OneTimeStep {
+        prompt: Prompt { ticks: 0, kind: 0 },
+        prompted: curve.prompted,
         lapses: false,
     }
 }

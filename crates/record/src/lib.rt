@@ -1,5 +1,6 @@
 // What the cab delivers: a sample, the record that a tick goes by, and its 8 bytes.
 ghost use mathlib.Core.Path.{_≡_};
+ghost use Rattle.record.specs.Modes.{preOrVyl};
 ghost use Rattle.record.specs.Flags.{keysOf};
 ghost use Rattle.record.specs.Record.{recordInRange, recordAt, putRecord};
 ghost use Rattle.record.specs.Sample.{recordRefusal, sampleRefusal, sampleRecord};
@@ -69,6 +70,12 @@ pub const VYL: u8 = 3;
 
 pub const ZAV: u8 = 4;
 
+pub fn pre_or_vyl(mode: u8) -> bool
+    ensures { λ r. ⌜ r ≡ preOrVyl mode ⌝ }
+{
+    (mode == PRE) | (mode == VYL)
+}
+
 // The last of the lever's places and of the senses of motion.
 const REVERSE: u8 = 2;
 
@@ -119,7 +126,7 @@ pub fn keys_of(flags: u8, buttons: u8) -> Keys
 }
 
 // The highest band.
-const TOP_BAND: u8 = 2;
+pub const TOP_BAND: u8 = 2;
 
 pub fn record_in_range(r: Record) -> bool
     ensures { λ b. ⌜ b ≡ recordInRange r ⌝ }

@@ -20,7 +20,7 @@ use Rattle.record.specs.Sample.{sampleRefusal, sampleRecord}
 use Rattle.record.proofs.Ranges.{record-ranges}
 use Rattle.record.proofs.Bytes.{put-length, put-before, put-back}
 use Rattle.record.proofs.Refusal.{sample-in-range, sample-v}
-use Rattle.rules.specs.declared.Advanced.{Advanced}
+use Rattle.rules.specs.declared.AfterTick.{AfterTick}
 use Rattle.rules.specs.Tick.{advance}
 use Rattle.rules.specs.After.{after}
 use Rattle.rules.proofs.After.{after-next, after-same, after-ranges}
@@ -107,7 +107,7 @@ record Kept (card : Card) (L : ℕ) (s : Drive) : Type 0 where
   fits : length (s .kept) ≤ capacity L
 
 pub after-desk : (card : Card) (H K : ℕ → Record) (m : ℕ) → ((i : ℕ) → i < m → H i ≡ K i) → desk-at card H m ≡ desk-at card K m
-after-desk card H K m h = ap (λ (a : Advanced). record { card = card; n = m; state = a .state }) (after-same card H K m h)
+after-desk card H K m h = ap (λ (a : AfterTick). record { card = card; n = m; state = a .state }) (after-same card H K m h)
 
 module _ (card : Card) (L : ℕ) (ok : cardInRange card ≡ true) (s : Drive) (v : Kept card L s) where
   n-is : s .desk .n ≡ length (s .kept)
@@ -178,12 +178,12 @@ module _ (card : Card) (L : ℕ) (ok : cardInRange card ≡ true) (s : Drive) (v
       let new : records K n ≡ r = records-new J n r fit (let q = sample-v x in omega arith) in
       let there : putRecord J (recordWidth * s .desk .n) r ≡ K = ap (λ (m : ℕ). putRecord J (recordWidth * m) r) n-is in
       let one-more : advance card (after card (records J) n .state) r ≡ after card (records K) (n + 1) =
-      sym (after-next card (records K) n ∙ ap₂ (λ (a : Advanced) (q : Record). advance card (a .state) q) (after-same card (records K) (records J) n old) new) in
+      sym (after-next card (records K) n ∙ ap₂ (λ (a : AfterTick) (q : Record). advance card (a .state) q) (after-same card (records K) (records J) n old) new) in
       rw (yes .0, yes .1, there)
       (record {
         is =
             ap (λ (d : Desk). record { card = d .card; n = d .n + 1; state = advance (d .card) (d .state) r .state }) (v .is)
-            ∙ ap (λ (a : Advanced). record { card = card; n = n + 1; state = a .state }) one-more
+            ∙ ap (λ (a : AfterTick). record { card = card; n = n + 1; state = a .state }) one-more
             ∙ ap (desk-at card (records K)) (sym (length-snoc (s .kept) x));
         held = λ i h. held-more (s .kept) x (records K) (λ i l. old i l ∙ v .held i l) new i h;
         fine = fine-append (s .kept) x (v .fine) (t .fine);
@@ -375,8 +375,8 @@ module _ (card : Card) (L : ℕ) (ok : cardInRange card ≡ true) (s t : Drive) 
       ap (λ (o : Outcome). o .answer) (Calls.back-yes _ _ _ (back-open card L ok s v k few))
       ∙ ap (λ (q : Desk). after (q .card) (records (s .journal)) (q .n - k) .answer) (v .is)
       ∙ ap (λ (i : ℕ). after card (records (s .journal)) i .answer) count
-      ∙ ap (λ (a : Advanced). a .answer) (after-next card (records (s .journal)) m)
-      ∙ ap₂ (λ (a : Advanced) (q : Record). advance card (a .state) q .answer) (after-same card (records (s .journal)) (records (t .journal)) m front) (there m (omega arith) ∙ survivor-new xs x)
+      ∙ ap (λ (a : AfterTick). a .answer) (after-next card (records (s .journal)) m)
+      ∙ ap₂ (λ (a : AfterTick) (q : Record). advance card (a .state) q .answer) (after-same card (records (s .journal)) (records (t .journal)) m front) (there m (omega arith) ∙ survivor-new xs x)
       ∙ sym (ap (λ (q : Desk). advance (q .card) (q .state) (sampleRecord x) .answer) d)
       ∙ sym (ap (λ (o : Outcome). o .answer) (Calls.tick-yes _ _ _ (tick-open card L ok t w x (fine-both .1) room-left) .0))
 

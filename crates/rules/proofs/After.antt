@@ -8,7 +8,7 @@ use Rattle.card.specs.declared.Card.{Card}
 use Rattle.card.specs.Card.{CardRanges}
 use Rattle.record.specs.declared.Record.{Record}
 use Rattle.record.specs.Record.{RecordRanges}
-use Rattle.rules.specs.declared.Advanced.{Advanced}
+use Rattle.rules.specs.declared.AfterTick.{AfterTick}
 use Rattle.state.specs.State.{StateRanges}
 use Rattle.rules.specs.Tick.{advance}
 use Rattle.rules.specs.After.{after}
@@ -29,4 +29,4 @@ pub after-same : (card : Card) (H K : ℕ → Record) (m : ℕ) → ((i : ℕ) �
 unfolding after
 after-same card H K zero same = refl
 after-same card H K (suc m) same =
-    ap₂ (λ (a : Advanced) (r : Record). advance card (a .state) r) (after-same card H K m (λ i l. same i (omega arith))) (same m (omega arith))
+    ap₂ (λ (a : AfterTick) (r : Record). advance card (a .state) r) (after-same card H K m (λ i l. same i (omega arith))) (same m (omega arith))

@@ -10,56 +10,56 @@ use Rattle.card.specs.Card.{CardRanges, longWait}
 use Rattle.record.specs.declared.Record.{Record}
 use Rattle.record.specs.Record.{RecordRanges}
 use Rattle.record.specs.Modes.{pre}
-use Rattle.signal.specs.Ranges.{AspectRanges}
-use Rattle.signal.proofs.Keeps.{aspect-now-ranges}
-use Rattle.cyclic.specs.Ranges.{WatchRanges}
-use Rattle.onetime.specs.Ranges.{OneTimeRanges}
-use Rattle.cyclic.proofs.Keeps.{watch-kind-most, watched-ranges}
-use Rattle.onetime.proofs.Keeps.{asked-ranges}
-use Rattle.motion.specs.Direction.{farthest}
+use Rattle.signal.specs.Ranges.{SignalStepRanges}
+use Rattle.signal.proofs.Keeps.{steps-2-to-6-ranges}
+use Rattle.cyclic.specs.Ranges.{CyclicRanges}
+use Rattle.onetime.specs.Ranges.{OneTimeStepRanges}
+use Rattle.cyclic.proofs.Keeps.{cyclic-kind-most, step-7-cyclic-ranges}
+use Rattle.onetime.proofs.Keeps.{step-8-one-time-ranges}
+use Rattle.motion.specs.Direction.{mostWrongway}
 use Rattle.motion.proofs.Keeps.{wrongway-now-most, standing-now-most}
-use Rattle.causes.proofs.Keeps.{wrongway-left-most, mask-of-most}
+use Rattle.causes.proofs.Keeps.{step-10-wrongway-most, mask-of-most}
 use Rattle.state.specs.declared.State.{State}
 use Rattle.state.specs.State.{StateRanges}
-use Rattle.state.proofs.Keeps.{entered-ranges}
-use Rattle.rules.specs.Permitted.{permitted}
-use Rattle.rules.specs.Tick.{aspectIn, permittedIn, kindIn, cyclicIn, oneTimeIn, movedIn, stoodIn, heldNext, wrongwayNext, stateNext, ticked, advance}
+use Rattle.state.proofs.Keeps.{step-1-mode-ranges}
+use Rattle.rules.specs.Permitted.{step6Permitted}
+use Rattle.rules.specs.Tick.{signalIn, permittedIn, kindIn, cyclicIn, oneTimeIn, directionIn, standingIn, heldNext, wrongwayNext, stateNext, steps2To10, advance}
 
-pub permitted-most : (card : Card) (mode speed : ℕ) → CardRanges card → permitted card mode speed ≤ topSpeed
-unfolding permitted
+pub permitted-most : (card : Card) (mode speed : ℕ) → CardRanges card → step6Permitted card mode speed ≤ topSpeed
+unfolding step6Permitted
 permitted-most card mode speed good = simp most-iff (omega arith)
 
 module _ (card : Card) (s : State) (r : Record) (card-good : CardRanges card) (good : StateRanges s) (fits : RecordRanges r) where
-  aspect-in-ranges : AspectRanges (aspectIn card s r)
-  unfolding aspectIn
-  aspect-in-ranges =
-      cond-has AspectRanges (eqb (s .mode) pre) (aspect-now-ranges _ _ _ card-good (good .signal) fits _) (omega arith)
+  signal-in-ranges : SignalStepRanges (signalIn card s r)
+  unfolding signalIn
+  signal-in-ranges =
+      cond-has SignalStepRanges (eqb (s .mode) pre) (steps-2-to-6-ranges _ _ _ card-good (good .signal) fits _) (omega arith)
 
   pub permitted-in-most : permittedIn card s r ≤ topSpeed
   unfolding permittedIn
   permitted-in-most = permitted-most _ _ _ card-good
 
-  watch-in-ranges : WatchRanges (cyclicIn card s r .watch)
+  cyclic-in-ranges : CyclicRanges (cyclicIn card s r .cyclic)
   unfolding kindIn cyclicIn
-  watch-in-ranges = watched-ranges _ _ card-good _ _ (watch-kind-most _ _ _ _)
+  cyclic-in-ranges = step-7-cyclic-ranges _ _ card-good _ _ (cyclic-kind-most _ _ _ _)
 
-  one-time-in-ranges : OneTimeRanges (oneTimeIn card s r)
+  one-time-in-ranges : OneTimeStepRanges (oneTimeIn card s r)
   unfolding oneTimeIn
-  one-time-in-ranges = asked-ranges _ _ _ _ _ _ _ (aspect-in-ranges .signal .curve .given-most) (good .once .kind-most)
+  one-time-in-ranges = step-8-one-time-ranges _ _ _ _ _ _ _ (signal-in-ranges .signal .curve .prompted-most) (good .prompt .kind-most)
 
-  wrongway-next-most : wrongwayNext card s r ≤ farthest
-  unfolding movedIn wrongwayNext
-  wrongway-next-most = wrongway-left-most _ _ _ _ _ (wrongway-now-most _ _ _ _ (good .wrongway-most))
+  wrongway-next-most : wrongwayNext card s r ≤ mostWrongway
+  unfolding directionIn wrongwayNext
+  wrongway-next-most = step-10-wrongway-most _ _ _ _ _ (wrongway-now-most _ _ _ _ (good .wrongway-most))
 
-  standing-in-most : stoodIn card s r .standing ≤ longWait
-  unfolding stoodIn
+  standing-in-most : standingIn card s r .standing ≤ longWait
+  unfolding standingIn
   standing-in-most = standing-now-most _ _ _ _ _ _ card-good (good .standing-most)
 
   pub state-next-ranges : StateRanges (stateNext card s r)
   unfolding stateNext
   state-next-ranges =
-      omega (arith, aspect-in-ranges, watch-in-ranges, one-time-in-ranges, wrongway-next-most, standing-in-most, mask-of-most (heldNext card s r))
+      omega (arith, signal-in-ranges, cyclic-in-ranges, one-time-in-ranges, wrongway-next-most, standing-in-most, mask-of-most (heldNext card s r))
 
 pub advance-keeps : (card : Card) (s : State) (r : Record) → CardRanges card → StateRanges s → RecordRanges r → StateRanges (advance card s r .state)
-unfolding advance ticked
-advance-keeps card s r card-good good fits = state-next-ranges _ _ _ card-good (entered-ranges s r good fits) fits
+unfolding advance steps2To10
+advance-keeps card s r card-good good fits = state-next-ranges _ _ _ card-good (step-1-mode-ranges s r good fits) fits

@@ -6,10 +6,10 @@ use lib.Dec.{ltb, eqb}
 use Rattle.layout.specs.Layout.{u16Bytes}
 use Rattle.signal.specs.declared.Signal.{Signal}
 use Rattle.signal.specs.Speed.{manOn, curveRuns}
-use Rattle.cyclic.specs.declared.Cyclic.{Cyclic}
-use Rattle.onetime.specs.declared.Once.{Once}
-use Rattle.onetime.specs.Once.{prompting}
-use Rattle.motion.specs.declared.Stood.{Stood}
+use Rattle.cyclic.specs.declared.CyclicStep.{CyclicStep}
+use Rattle.onetime.specs.declared.Prompt.{Prompt}
+use Rattle.onetime.specs.OneTime.{prompting}
+use Rattle.motion.specs.declared.StandingStep.{StandingStep}
 use Rattle.rules.specs.declared.Answer.{Answer}
 
 -- the weights of the marks, from bit 0
@@ -24,35 +24,35 @@ abbrev pub cyclicMark : ℕ
 cyclicMark = 4
 
 -- one-time prompt, and its kind
-abbrev pub onceMark : ℕ
-onceMark = 8
+abbrev pub oneTimeMark : ℕ
+oneTimeMark = 8
 
 abbrev pub kindMark : ℕ
 kindMark = 16
 
 -- ZS20
-abbrev pub soundMark : ℕ
-soundMark = 32
+abbrev pub zs20Mark : ℕ
+zs20Mark = 32
 
-unfoldable pub marks : Signal → Cyclic → Once → Stood → ℕ
-marks signal cyclic once stood =
+unfoldable pub marks : Signal → CyclicStep → Prompt → StandingStep → ℕ
+marks signal cyclic prompt standing =
     cond (manOn (signal .man)) manMark 0
     + cond (curveRuns (signal .curve)) curveMark 0
     + cond (cyclic .prompts) cyclicMark 0
-    + cond (prompting once) onceMark 0
-    + cond (ltb 0 (once .kind)) kindMark 0
-    + cond (stood .sounds) soundMark 0
+    + cond (prompting prompt) oneTimeMark 0
+    + cond (ltb 0 (prompt .kind)) kindMark 0
+    + cond (standing .sounds) zs20Mark 0
 
 -- how many bytes an answer takes
 abbrev pub answerWidth : ℕ
 answerWidth = 8
 
 abbrev pub answerBytes : Answer → List ℕ
-answerBytes a = u16Bytes (a .permitted) ++ u16Bytes (a .target) ++ (a .marks ∷ a .causes ∷ a .lowest ∷ a .held ∷ [])
+answerBytes answer = u16Bytes (answer .permitted) ++ u16Bytes (answer .target) ++ (answer .marks ∷ answer .causes ∷ answer .lowest ∷ answer .held ∷ [])
 
 abbrev pub noAnswer : Answer
 noAnswer = record { permitted = 0; target = 0; marks = 0; causes = 0; lowest = 0; held = 0 }
 
 -- the valve is open exactly when a cause is held
 abbrev pub valveOpen : Answer → Bool
-valveOpen a = not (eqb (a .causes) 0)
+valveOpen answer = not (eqb (answer .causes) 0)

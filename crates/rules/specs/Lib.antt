@@ -1,5 +1,5 @@
 pub mod Permitted
 pub mod Answer
 pub mod Tick
-pub mod Found
+pub mod Findings
 pub mod After

@@ -19,6 +19,6 @@ abbrev pub leastOf : Card → ℕ → ℕ
 leastOf card mode = min (min (card .design) (ceiling card mode)) (min (card .set) (card .highest))
 
 -- the least of design, mode ceiling, set, highest and, in PRE, signal speed
-unfoldable pub permitted : Card → ℕ → ℕ → ℕ
-permitted card mode speed =
+unfoldable pub step6Permitted : Card → ℕ → ℕ → ℕ
+step6Permitted card mode speed =
     cond (eqb mode pre) (min (leastOf card mode) speed) (leastOf card mode)

@@ -4,36 +4,36 @@ ghost use Prim.Native.Nat.{_≤_};
 ghost use Rattle.card.specs.Card.{CardRanges};
 ghost use Rattle.reading.specs.Speed.{topSpeed};
 ghost use Rattle.record.specs.Record.{RecordRanges};
-ghost use Rattle.signal.specs.Ranges.{AspectRanges};
+ghost use Rattle.signal.specs.Ranges.{SignalStepRanges};
 ghost use Rattle.state.specs.State.{StateRanges};
-ghost use Rattle.rules.specs.Permitted.{ceiling, permitted};
+ghost use Rattle.rules.specs.Permitted.{ceiling, step6Permitted};
 ghost use Rattle.rules.specs.Answer.{marks, noAnswer};
-ghost use Rattle.rules.specs.Tick.{keysIn, aspectIn, triggersIn, stateNext, ticked, advance};
-ghost use Rattle.rules.specs.Found.{found};
+ghost use Rattle.rules.specs.Tick.{keysIn, signalIn, triggersIn, stateNext, steps2To10, advance};
+ghost use Rattle.rules.specs.Findings.{steps2To9};
 use card::Card;
 use causes::Causes;
-use cyclic::Cyclic;
-use motion::Moved;
-use motion::Stood;
-use onetime::Once;
-use onetime::OneTime;
+use cyclic::CyclicStep;
+use motion::DirectionStep;
+use motion::StandingStep;
+use onetime::OneTimeStep;
+use onetime::Prompt;
 use record::Keys;
 use record::Record;
-use signal::Aspect;
 use signal::Curve;
 use signal::Signal;
+use signal::SignalStep;
 use state::State;
 
-// What steps 2 to 9 find.
+// What steps 2 to 9 find, in the state as step 1 leaves it.
 pub struct Findings {
     pub keys: Keys,
-    pub aspect: Aspect,
+    pub signal: SignalStep,
     // P
     pub permitted: u16,
-    pub cyclic: Cyclic,
-    pub once: OneTime,
-    pub moved: Moved,
-    pub stood: Stood,
+    pub cyclic: CyclicStep,
+    pub onetime: OneTimeStep,
+    pub direction: DirectionStep,
+    pub standing: StandingStep,
 }
 
 // What the desk shows after a tick.
@@ -48,13 +48,14 @@ pub struct Answer {
     pub held: u8,
 }
 
-pub struct Advanced {
+// What a tick gives.
+pub struct AfterTick {
     pub state: State,
     pub answer: Answer,
 }
 
 pub fn no_answer() -> Answer
-    ensures { λ a. ⌜ a ≡ noAnswer ⌝ }
+    ensures { λ answer. ⌜ answer ≡ noAnswer ⌝ }
 {
     Answer {
         permitted: 0,
@@ -67,15 +68,15 @@ pub fn no_answer() -> Answer
 }
 
 // Steps 2 to 6, in PRE alone.
-fn aspect_in(card: Card, s: State, r: Record, k: Keys) -> Aspect
-    requires { ⌜ CardRanges card × StateRanges s × RecordRanges r × (k ≡ keysIn card s r) ⌝ }
-    ensures { λ x. ⌜ (x ≡ aspectIn card s r) × AspectRanges x ⌝ }
+fn signal_in(card: Card, state: State, reading: Record, keys: Keys) -> SignalStep
+    requires { ⌜ CardRanges card × StateRanges state × RecordRanges reading × (keys ≡ keysIn card state reading) ⌝ }
+    ensures { λ x. ⌜ (x ≡ signalIn card state reading) × SignalStepRanges x ⌝ }
 {
-    let signal = s.signal;
-    if s.mode == record::PRE {
-        return signal::aspect_now(card, signal, r, k);
+    let signal = state.signal;
+    if state.mode == record::PRE {
+        return signal::steps_2_to_6(card, signal, reading, keys);
     }
-    Aspect {
+    SignalStep {
         signal: signal,
         target: 0,
         begins: false,
@@ -100,9 +101,9 @@ fn ceiling(card: Card, mode: u8) -> u16
 }
 
 // Step 6: P.
-fn permitted(card: Card, mode: u8, speed: u16) -> u16
+fn step_6_permitted(card: Card, mode: u8, speed: u16) -> u16
     requires { ⌜ CardRanges card ⌝ }
-    ensures { λ x. ⌜ (x ≡ permitted card mode speed) × (x ≤ topSpeed) ⌝ }
+    ensures { λ x. ⌜ (x ≡ step6Permitted card mode speed) × (x ≤ topSpeed) ⌝ }
 {
     let first = numbers::lesser(card.design, ceiling(card, mode));
     let least = numbers::lesser(first, numbers::lesser(card.set, card.highest));
@@ -113,122 +114,130 @@ fn permitted(card: Card, mode: u8, speed: u16) -> u16
 }
 
 // Steps 2 to 9.
-fn found(card: Card, s: State, r: Record) -> Findings
-    requires { ⌜ CardRanges card × StateRanges s × RecordRanges r ⌝ }
-    ensures { λ x. ⌜ x ≡ found card s r ⌝ }
+fn steps_2_to_9(card: Card, state: State, reading: Record) -> Findings
+    requires { ⌜ CardRanges card × StateRanges state × RecordRanges reading ⌝ }
+    ensures { λ x. ⌜ x ≡ steps2To9 card state reading ⌝ }
 {
-    let keys = record::keys_of(r.flags, s.buttons);
-    let aspect = aspect_in(card, s, r, keys);
-    let permitted = permitted(card, s.mode, aspect.speed);
-    let signal = aspect.signal;
-    let kind = cyclic::watch_kind(s.mode, signal, r, keys);
-    let watch = s.watch;
-    let cyclic = cyclic::watched(card, kind, watch, keys);
-    let curve = aspect.signal.curve;
-    let once = s.once;
-    let asked = onetime::asked(card, curve, aspect.begins, aspect.target, r.v, keys, once);
-    let moved = motion::driven(s.mode, r, keys, s.wrongway);
-    let stood = motion::parked(
+    let keys = record::keys_of(reading.flags, state.buttons);
+    let signal = signal_in(card, state, reading, keys);
+    let permitted = step_6_permitted(card, state.mode, signal.speed);
+    let signals = signal.signal;
+    let kind = cyclic::cyclic_kind(state.mode, signals, reading, keys);
+    let old = state.cyclic;
+    let cyclic = cyclic::step_7_cyclic(card, kind, old, keys);
+    let curve = signal.signal.curve;
+    let prompt = state.prompt;
+    let onetime = onetime::step_8_one_time(
         card,
-        s.mode,
-        r,
+        curve,
+        signal.begins,
+        signal.target,
+        reading.v,
         keys,
-        causes::holds_nz5(s.causes),
-        s.standing,
+        prompt,
+    );
+    let direction = motion::step_9_direction(state.mode, reading, keys, state.wrongway);
+    let standing = motion::step_9_standing(
+        card,
+        state.mode,
+        reading,
+        keys,
+        causes::holds_nz5(state.causes),
+        state.standing,
     );
     Findings {
         keys: keys,
-        aspect: aspect,
+        signal: signal,
         permitted: permitted,
         cyclic: cyclic,
-        once: asked,
-        moved: moved,
-        stood: stood,
+        onetime: onetime,
+        direction: direction,
+        standing: standing,
     }
 }
 
 // Step 9: the triggers.
-fn triggers_in(card: Card, s: State, r: Record, f: Findings) -> Causes
-    requires { ⌜ CardRanges card × StateRanges s × RecordRanges r × (f ≡ found card s r) ⌝ }
-    ensures { λ x. ⌜ x ≡ triggersIn card s r ⌝ }
+fn triggers_in(card: Card, state: State, reading: Record, findings: Findings) -> Causes
+    requires { ⌜ CardRanges card × StateRanges state × RecordRanges reading × (findings ≡ steps2To9 card state reading) ⌝ }
+    ensures { λ x. ⌜ x ≡ triggersIn card state reading ⌝ }
 {
     Causes {
-        nz1: f.cyclic.lapses | f.once.lapses,
-        nz2: f.permitted + card.tolerance < r.v,
-        nz3: f.moved.triggers,
-        nz4: ((s.mode == record::PRE) | (s.mode == record::VYL)) & f.keys.remote,
-        nz5: f.stood.triggers,
+        nz1: findings.cyclic.lapses | findings.onetime.lapses,
+        nz2: findings.permitted + card.tolerance < reading.v,
+        nz3: findings.direction.triggers,
+        nz4: record::pre_or_vyl(state.mode) & findings.keys.remote,
+        nz5: findings.standing.triggers,
     }
 }
 
 // Step 10, and the state that the next tick starts from.
-fn state_next(card: Card, s: State, r: Record, f: Findings) -> State
-    requires { ⌜ CardRanges card × StateRanges s × RecordRanges r × (f ≡ found card s r) ⌝ }
-    ensures { λ x. ⌜ (x ≡ stateNext card s r) × StateRanges x ⌝ }
+fn state_next(card: Card, state: State, reading: Record, findings: Findings) -> State
+    requires { ⌜ CardRanges card × StateRanges state × RecordRanges reading × (findings ≡ steps2To9 card state reading) ⌝ }
+    ensures { λ x. ⌜ (x ≡ stateNext card state reading) × StateRanges x ⌝ }
 {
-    let triggers = triggers_in(card, s, r, f);
-    let keys = f.keys;
-    let mask = causes::mask_next(s.causes, triggers, f.permitted, r, keys);
-    let wrongway = causes::wrongway_left(
-        f.moved.wrongway,
-        s.causes,
+    let triggers = triggers_in(card, state, reading, findings);
+    let keys = findings.keys;
+    let mask = causes::step_10_mask(state.causes, triggers, findings.permitted, reading, keys);
+    let wrongway = causes::step_10_wrongway(
+        findings.direction.wrongway,
+        state.causes,
         triggers,
-        f.permitted,
-        r,
+        findings.permitted,
+        reading,
         keys,
     );
-    let codes = f.aspect.signal.codes;
-    let once = f.once.once;
-    let watch = f.cyclic.watch;
+    let codes = findings.signal.signal.codes;
+    let prompt = findings.onetime.prompt;
+    let cyclic = findings.cyclic.cyclic;
     State {
-        mode: s.mode,
-        buttons: r.flags % 8,
+        mode: state.mode,
+        buttons: reading.flags % 8,
         signal: Signal {
             codes: codes,
             curve: Curve {
-                start: f.aspect.signal.curve.start,
-                age: f.aspect.signal.curve.age,
-                given: f.once.given,
+                start: findings.signal.signal.curve.start,
+                age: findings.signal.signal.curve.age,
+                prompted: findings.onetime.prompted,
             },
-            man: f.aspect.signal.man,
+            man: findings.signal.signal.man,
         },
-        once: once,
-        watch: watch,
+        prompt: prompt,
+        cyclic: cyclic,
         wrongway: wrongway,
-        standing: f.stood.standing,
+        standing: findings.standing.standing,
         causes: mask,
     }
 }
 
-fn marks(signal: Signal, cyclic: Cyclic, once: Once, stood: Stood) -> u8
-    ensures { λ x. ⌜ x ≡ marks signal cyclic once stood ⌝ }
+fn marks(signal: Signal, cyclic: CyclicStep, prompt: Prompt, standing: StandingStep) -> u8
+    ensures { λ x. ⌜ x ≡ marks signal cyclic prompt standing ⌝ }
 {
     numbers::weight(0 < signal.man, 1)
         + numbers::weight(0 < signal.curve.start, 2)
         + numbers::weight(cyclic.prompts, 4)
-        + numbers::weight(0 < once.ticks, 8)
-        + numbers::weight(0 < once.kind, 16)
-        + numbers::weight(stood.sounds, 32)
+        + numbers::weight(0 < prompt.ticks, 8)
+        + numbers::weight(0 < prompt.kind, 16)
+        + numbers::weight(standing.sounds, 32)
 }
 
-// Step 10 and the answer.
-fn ticked(card: Card, s: State, r: Record, f: Findings) -> Advanced
-    requires { ⌜ CardRanges card × StateRanges s × RecordRanges r × (f ≡ found card s r) ⌝ }
-    ensures { λ x. ⌜ (x ≡ ticked card s r) × StateRanges (x .state) ⌝ }
+// Steps 2 to 10 and the answer, from what steps 2 to 9 found.
+fn steps_2_to_10(card: Card, state: State, reading: Record, findings: Findings) -> AfterTick
+    requires { ⌜ CardRanges card × StateRanges state × RecordRanges reading × (findings ≡ steps2To9 card state reading) ⌝ }
+    ensures { λ x. ⌜ (x ≡ steps2To10 card state reading) × StateRanges (x .state) ⌝ }
 {
-    let next = state_next(card, s, r, f);
-    let signal = f.aspect.signal;
-    let cyclic = f.cyclic;
-    let once = f.once.once;
-    let stood = f.stood;
-    let marks = marks(signal, cyclic, once, stood);
+    let next = state_next(card, state, reading, findings);
+    let signal = findings.signal.signal;
+    let cyclic = findings.cyclic;
+    let prompt = findings.onetime.prompt;
+    let standing = findings.standing;
+    let marks = marks(signal, cyclic, prompt, standing);
     let lowest = causes::lowest(next.causes);
     let held = causes::how_many(next.causes);
-    Advanced {
+    AfterTick {
         state: next,
         answer: Answer {
-            permitted: f.permitted,
-            target: f.aspect.target,
+            permitted: findings.permitted,
+            target: findings.signal.target,
             marks: marks,
             causes: next.causes,
             lowest: lowest,
@@ -238,11 +247,11 @@ fn ticked(card: Card, s: State, r: Record, f: Findings) -> Advanced
 }
 
 // One tick: the new state and the answer.
-pub fn advance(card: Card, state: State, r: Record) -> Advanced
-    requires { ⌜ CardRanges card × StateRanges state × RecordRanges r ⌝ }
-    ensures { λ x. ⌜ (x ≡ advance card state r) × StateRanges (x .state) ⌝ }
+pub fn advance(card: Card, state: State, reading: Record) -> AfterTick
+    requires { ⌜ CardRanges card × StateRanges state × RecordRanges reading ⌝ }
+    ensures { λ x. ⌜ (x ≡ advance card state reading) × StateRanges (x .state) ⌝ }
 {
-    let s = state::entered(state, r);
-    let f = found(card, s, r);
-    ticked(card, s, r, f)
+    let entered = state::step_1_mode(state, reading);
+    let findings = steps_2_to_9(card, entered, reading);
+    steps_2_to_10(card, entered, reading, findings)
 }

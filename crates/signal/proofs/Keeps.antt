@@ -15,15 +15,15 @@ use Rattle.record.specs.declared.Keys.{Keys}
 use Rattle.record.specs.Record.{RecordRanges}
 use Rattle.signal.specs.declared.Curve.{Curve}
 use Rattle.signal.specs.declared.Signal.{Signal}
-use Rattle.signal.specs.Ranges.{CurveRanges, SignalRanges, AspectRanges, oldestAge}
+use Rattle.signal.specs.Ranges.{CurveRanges, SignalRanges, CurveStepRanges, SignalStepRanges, oldestAge}
 use Rattle.signal.specs.Speed.{curveValue, signalSpeed}
 use Rattle.signal.specs.NewCode.{oldSpeed, manByCode, curveByCode}
 use Rattle.codes.specs.Ranges.{CodesRanges}
 use Rattle.codes.specs.Plus.{codesNext}
 use Rattle.codes.proofs.Keeps.{target-most, codes-next-ranges}
-use Rattle.signal.specs.Man.{manLowered}
-use Rattle.signal.specs.Curve.{ageNow, curveHolds, curveAged, manStarted}
-use Rattle.signal.specs.Aspect.{targetNow, curveNext, manNext, aspectNow}
+use Rattle.signal.specs.Man.{step4Man}
+use Rattle.signal.specs.Curve.{ageNow, curveHolds, curveAged, manStarted, step5Curve}
+use Rattle.signal.specs.Steps.{targetNow, curveAndMan, steps2To6}
 use Rattle.signal.proofs.Spent.{unspent}
 
 pub signal-speed-most : (card : Card) (curve : Curve) (man t : ℕ) → CurveRanges curve → man ≤ topSpeed → t ≤ topSpeed
@@ -31,9 +31,9 @@ pub signal-speed-most : (card : Card) (curve : Curve) (man t : ℕ) → CurveRan
 unfolding signalSpeed curveValue
 signal-speed-most card curve man t good p q = simp most-iff (omega arith)
 
-pub man-lowered-most : (was now : ℕ) (unchanged : Bool) (t v : ℕ) → now ≤ topSpeed → manLowered was now unchanged t v ≤ topSpeed
-unfolding manLowered
-man-lowered-most was now unchanged t v p = simp most-iff (omega arith)
+pub step-4-man-most : (was now : ℕ) (unchanged : Bool) (t v : ℕ) → now ≤ topSpeed → step4Man was now unchanged t v ≤ topSpeed
+unfolding step4Man
+step-4-man-most was now unchanged t v p = simp most-iff (omega arith)
 
 module _ (card : Card) (curve : Curve) (begins : Bool) (t : ℕ) (k : Keys) (card-good : CardRanges card) (good : CurveRanges curve) where
   -- a curve that goes on is not spent
@@ -43,9 +43,13 @@ module _ (card : Card) (curve : Curve) (begins : Bool) (t : ℕ) (k : Keys) (car
       let f = simp (and-iff, not-iff) at h in
       omega (arith, unspent card curve t (ageNow curve begins) card-good good (eqb-false _ _ (f .1)))
 
-  pub curve-aged-ranges : CurveRanges (curveAged card curve begins t k)
+  curve-aged-ranges : CurveRanges (curveAged card curve begins t k)
   unfolding curveAged
   curve-aged-ranges = simp (cond-iff CurveRanges, and-iff) (omega (arith, young))
+
+  pub step-5-curve-ranges : (man v : ℕ) → man ≤ topSpeed → v ≤ topSpeed → CurveStepRanges (step5Curve card curve begins t k man v)
+  unfolding manStarted
+  step-5-curve-ranges man v p q = record { curve = curve-aged-ranges; man-most = simp most-iff (omega arith) }
 
 module _ (card : Card) (s : Signal) (r : Record) (card-good : CardRanges card) (good : SignalRanges s) (fits : RecordRanges r) where
   pub man-by-code-most : manByCode card s r ≤ topSpeed
@@ -66,21 +70,18 @@ module _ (card : Card) (s : Signal) (r : Record) (card-good : CardRanges card) (
     target-now-most : targetNow card s r k ≤ topSpeed
     target-now-most = target-most _ _ _ card-good (codes-ranges .raise-most)
 
-    curve-next-ranges : CurveRanges (curveNext card s r k)
-    curve-next-ranges = curve-aged-ranges _ _ _ _ _ card-good curve-by-code-ranges
+    curve-and-man-ranges : CurveStepRanges (curveAndMan card s r k)
+    curve-and-man-ranges =
+        step-5-curve-ranges _ _ _ _ _ card-good curve-by-code-ranges _ _ (step-4-man-most _ _ _ _ _ man-by-code-most) (fits .v-most)
 
-    man-next-most : manNext card s r k ≤ topSpeed
-    unfolding manStarted
-    man-next-most = simp most-iff (omega arith, λ e. man-lowered-most _ _ _ _ _ man-by-code-most)
-
-    pub aspect-now-ranges : AspectRanges (aspectNow card s r k)
-    unfolding aspectNow
-    aspect-now-ranges = record {
+    pub steps-2-to-6-ranges : SignalStepRanges (steps2To6 card s r k)
+    unfolding steps2To6
+    steps-2-to-6-ranges = record {
       signal = record {
         codes = codes-ranges;
-        curve = curve-next-ranges;
-        man-most = man-next-most;
+        curve = curve-and-man-ranges .curve;
+        man-most = curve-and-man-ranges .man-most;
       };
       target-most = target-now-most;
-      speed-most = signal-speed-most _ _ _ _ curve-next-ranges man-next-most target-now-most;
+      speed-most = signal-speed-most _ _ _ _ (curve-and-man-ranges .curve) (curve-and-man-ranges .man-most) target-now-most;
     }

@@ -5,7 +5,7 @@ use lib.Dec.{eqb}
 use Rattle.card.specs.declared.Card.{Card}
 use Rattle.record.specs.declared.Keys.{Keys}
 use Rattle.signal.specs.declared.Curve.{Curve}
-use Rattle.signal.specs.declared.Aging.{Aging}
+use Rattle.signal.specs.declared.CurveStep.{CurveStep}
 use Rattle.signal.specs.Speed.{curveRuns, curveValue}
 use Rattle.signal.specs.Ranges.{noCurve}
 use Rattle.signal.specs.NewCode.{manAt}
@@ -27,11 +27,12 @@ module _ (card : Card) (curve : Curve) (begins : Bool) (t : ℕ) (keys : Keys) w
   unfoldable pub curveAged : Curve
   curveAged =
       cond (curveRuns curve)
-      (cond (curveHolds card curve begins t && not manStarts) (record { start = curve .start; age = ageNow curve begins; given = curve .given }) noCurve)
+      (cond (curveHolds card curve begins t && not manStarts) (record { start = curve .start; age = ageNow curve begins; prompted = curve .prompted }) noCurve)
       curve
 
-  abbrev pub aged : Aging
-  aged = record { curve = curveAged; starts = manStarts }
+  -- M for v where MAN starts, else M as step 4 leaves it
+  unfoldable pub manStarted : ℕ → ℕ → ℕ
+  manStarted man v = cond manStarts (manAt v) man
 
-unfoldable pub manStarted : Bool → ℕ → ℕ → ℕ
-manStarted starts man v = cond starts (manAt v) man
+  abbrev pub step5Curve : ℕ → ℕ → CurveStep
+  step5Curve man v = record { curve = curveAged; man = manStarted man v }

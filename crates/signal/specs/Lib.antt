@@ -3,4 +3,4 @@ pub mod Speed
 pub mod NewCode
 pub mod Man
 pub mod Curve
-pub mod Aspect
+pub mod Steps

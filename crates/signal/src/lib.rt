@@ -4,12 +4,12 @@ ghost use Prim.Native.Nat.{suc, _≤_, _-_, min, max};
 ghost use Rattle.card.specs.Card.{CardRanges};
 ghost use Rattle.reading.specs.Speed.{topSpeed};
 ghost use Rattle.record.specs.Record.{RecordRanges};
-ghost use Rattle.signal.specs.Ranges.{oldestAge, noSignal, CurveRanges, SignalRanges, TurnRanges, AspectRanges, signalInRange};
+ghost use Rattle.signal.specs.Ranges.{oldestAge, noSignal, CurveRanges, SignalRanges, NewCodeRanges, CurveStepRanges, SignalStepRanges, signalInRange};
 ghost use Rattle.signal.specs.Speed.{curveValue, signalSpeed};
-ghost use Rattle.signal.specs.NewCode.{gapMan, turned};
-ghost use Rattle.signal.specs.Man.{manLowered};
-ghost use Rattle.signal.specs.Curve.{ageNow, aged, manStarted};
-ghost use Rattle.signal.specs.Aspect.{aspectNow};
+ghost use Rattle.signal.specs.NewCode.{gapMan, step2NewCode};
+ghost use Rattle.signal.specs.Man.{step4Man};
+ghost use Rattle.signal.specs.Curve.{ageNow, step5Curve};
+ghost use Rattle.signal.specs.Steps.{steps2To6};
 use card::Card;
 use codes::Codes;
 use record::Keys;
@@ -22,7 +22,7 @@ pub struct Curve {
     // c, its age in ticks
     pub age: u16,
     // w, whether its prompt of kind 1 was given
-    pub given: u8,
+    pub prompted: u8,
 }
 
 // What the desk holds of the signals.
@@ -34,22 +34,21 @@ pub struct Signal {
 }
 
 // MAN and the curve as step 2 leaves them, and whether the curve begins.
-pub struct Turn {
+pub struct NewCode {
     pub man: u16,
     pub curve: Curve,
     pub begins: bool,
 }
 
-// The curve as step 5 leaves it, and whether MAN starts on it.
-pub struct Aging {
+// The curve and M as step 5 leaves them.
+pub struct CurveStep {
     pub curve: Curve,
-    pub starts: bool,
+    pub man: u16,
 }
 
-// What steps 2 to 6 find.
-pub struct Aspect {
+// What steps 2 to 6 find: the signals, T, whether a curve begins, and the signal speed.
+pub struct SignalStep {
     pub signal: Signal,
-    // T
     pub target: u16,
     pub begins: bool,
     pub speed: u16,
@@ -58,33 +57,33 @@ pub struct Aspect {
 const OLDEST_AGE: u16 = 5000;
 
 // MAN never goes below this speed.
-const MAN_LEAST: u16 = 1200;
+const LEAST_MAN: u16 = 1200;
 
-pub fn signal_in_range(s: Signal) -> bool
-    ensures { λ x. ⌜ x ≡ signalInRange s ⌝ }
+pub fn signal_in_range(signal: Signal) -> bool
+    ensures { λ x. ⌜ x ≡ signalInRange signal ⌝ }
 {
-    codes::codes_in_range(s.codes)
-        & (s.curve.start <= reading::TOP_SPEED)
-        & (s.curve.age <= OLDEST_AGE)
-        & (s.curve.given <= 1)
-        & (s.man <= reading::TOP_SPEED)
+    codes::codes_in_range(signal.codes)
+        & (signal.curve.start <= reading::TOP_SPEED)
+        & (signal.curve.age <= OLDEST_AGE)
+        & (signal.curve.prompted <= 1)
+        & (signal.man <= reading::TOP_SPEED)
 }
 
 // No code, no curve, no MAN.
 pub fn no_signal() -> Signal
-    ensures { λ s. ⌜ s ≡ noSignal ⌝ }
+    ensures { λ signal. ⌜ signal ≡ noSignal ⌝ }
 {
     Signal {
         codes: Codes {
             last: 0,
-            before: 0,
+            interrupted: 0,
             gap: 0,
             raise: 0,
         },
         curve: Curve {
             start: 0,
             age: 0,
-            given: 0,
+            prompted: 0,
         },
         man: 0,
     }
@@ -120,47 +119,47 @@ fn signal_speed(card: Card, curve: Curve, man: u16, t: u16) -> u16
     t
 }
 
-fn gap_man(card: Card, s: Signal, r: Record) -> bool
+fn gap_man(card: Card, signal: Signal, reading: Record) -> bool
     requires { ⌜ CardRanges card ⌝ }
-    ensures { λ x. ⌜ x ≡ gapMan card s r ⌝ }
+    ensures { λ x. ⌜ x ≡ gapMan card signal reading ⌝ }
 {
-    let t = codes::target(card, r.code, 0);
-    let old = codes::target(card, s.codes.before, 0);
-    (s.codes.last == record::NONE)
-        & (s.codes.before != record::NONE)
-        & (50 < s.codes.gap)
+    let t = codes::target(card, reading.code, 0);
+    let old = codes::target(card, signal.codes.interrupted, 0);
+    (signal.codes.last == record::NONE)
+        & (signal.codes.interrupted != record::NONE)
+        & (50 < signal.codes.gap)
         & (t < old)
 }
 
 // Step 2: what the code does to MAN and the curve.
-fn turned(card: Card, s: Signal, r: Record) -> Turn
-    requires { ⌜ CardRanges card × SignalRanges s × RecordRanges r ⌝ }
-    ensures { λ x. ⌜ (x ≡ turned card s r) × TurnRanges x ⌝ }
+fn step_2_new_code(card: Card, signal: Signal, reading: Record) -> NewCode
+    requires { ⌜ CardRanges card × SignalRanges signal × RecordRanges reading ⌝ }
+    ensures { λ x. ⌜ (x ≡ step2NewCode card signal reading) × NewCodeRanges x ⌝ }
 {
-    let curve = s.curve;
+    let curve = signal.curve;
     let none = Curve {
         start: 0,
         age: 0,
-        given: 0,
+        prompted: 0,
     };
-    if r.code == s.codes.last {
-        return Turn {
-            man: s.man,
+    if reading.code == signal.codes.last {
+        return NewCode {
+            man: signal.man,
             curve: curve,
             begins: false,
         };
     }
-    let t = codes::target(card, r.code, 0);
-    if (0 < s.man) & (t <= r.v) {
-        return Turn {
-            man: s.man,
+    let t = codes::target(card, reading.code, 0);
+    if (0 < signal.man) & (t <= reading.v) {
+        return NewCode {
+            man: signal.man,
             curve: curve,
             begins: false,
         };
     }
-    if gap_man(card, s, r) {
-        return Turn {
-            man: numbers::greater(MAN_LEAST, r.v),
+    if gap_man(card, signal, reading) {
+        return NewCode {
+            man: numbers::greater(LEAST_MAN, reading.v),
             curve: none,
             begins: false,
         };
@@ -168,21 +167,21 @@ fn turned(card: Card, s: Signal, r: Record) -> Turn
     let old = signal_speed(
         card,
         curve,
-        s.man,
-        codes::target(card, s.codes.last, s.codes.raise),
+        signal.man,
+        codes::target(card, signal.codes.last, signal.codes.raise),
     );
     if t < old {
-        return Turn {
+        return NewCode {
             man: 0,
             curve: Curve {
                 start: old,
                 age: 0,
-                given: 0,
+                prompted: 0,
             },
             begins: true,
         };
     }
-    Turn {
+    NewCode {
         man: 0,
         curve: none,
         begins: false,
@@ -190,15 +189,15 @@ fn turned(card: Card, s: Signal, r: Record) -> Turn
 }
 
 // Step 4.
-fn man_lowered(was: u16, now: u16, unchanged: bool, t: u16, v: u16) -> u16
+fn step_4_man(was: u16, now: u16, unchanged: bool, t: u16, v: u16) -> u16
     requires { ⌜ (now ≤ topSpeed) × (v ≤ topSpeed) ⌝ }
-    ensures { λ x. ⌜ (x ≡ manLowered was now unchanged t v) × (x ≤ topSpeed) ⌝ }
+    ensures { λ x. ⌜ (x ≡ step4Man was now unchanged t v) × (x ≤ topSpeed) ⌝ }
 {
     if (0 < was) & (0 < now) {
         if unchanged & (v <= t) {
             return 0;
         }
-        return numbers::greater(MAN_LEAST, numbers::lesser(now, v));
+        return numbers::greater(LEAST_MAN, numbers::lesser(now, v));
     }
     now
 }
@@ -213,77 +212,84 @@ fn age_now(curve: Curve, begins: bool) -> u16
     curve.age + 1
 }
 
-// Step 5.
-fn aged(card: Card, curve: Curve, begins: bool, t: u16, k: Keys) -> Aging
-    requires { ⌜ CardRanges card × CurveRanges curve ⌝ }
-    ensures { λ x. ⌜ (x ≡ aged card curve begins t k) × CurveRanges (x .curve) ⌝ }
+// Step 5, with M as step 4 leaves it.
+fn step_5_curve(
+    card: Card,
+    curve: Curve,
+    begins: bool,
+    t: u16,
+    keys: Keys,
+    man: u16,
+    v: u16,
+) -> CurveStep
+    requires { ⌜ CardRanges card × CurveRanges curve × (man ≤ topSpeed) × (v ≤ topSpeed) ⌝ }
+    ensures { λ x. ⌜ (x ≡ step5Curve card curve begins t keys man v) × CurveStepRanges x ⌝ }
 {
     let none = Curve {
         start: 0,
         age: 0,
-        given: 0,
+        prompted: 0,
     };
     if 0 < curve.start {
         let age = age_now(curve, begins);
         if curve_value(card, curve, t, age) == t {
-            return Aging {
+            return CurveStep {
                 curve: none,
-                starts: false,
+                man: man,
             };
         }
-        if k.man | k.loss {
-            return Aging {
+        if keys.man | keys.loss {
+            return CurveStep {
                 curve: none,
-                starts: true,
+                man: numbers::greater(LEAST_MAN, v),
             };
         }
-        return Aging {
+        return CurveStep {
             curve: Curve {
                 start: curve.start,
                 age: age,
-                given: curve.given,
+                prompted: curve.prompted,
             },
-            starts: false,
+            man: man,
         };
     }
-    Aging {
+    CurveStep {
         curve: curve,
-        starts: false,
+        man: man,
     }
-}
-
-fn man_started(starts: bool, man: u16, v: u16) -> u16
-    requires { ⌜ (man ≤ topSpeed) × (v ≤ topSpeed) ⌝ }
-    ensures { λ x. ⌜ (x ≡ manStarted starts man v) × (x ≤ topSpeed) ⌝ }
-{
-    if starts {
-        return numbers::greater(MAN_LEAST, v);
-    }
-    man
 }
 
 // Steps 2 to 6.
-pub fn aspect_now(card: Card, s: Signal, r: Record, k: Keys) -> Aspect
-    requires { ⌜ CardRanges card × SignalRanges s × RecordRanges r ⌝ }
-    ensures { λ a. ⌜ (a ≡ aspectNow card s r k) × AspectRanges a ⌝ }
+pub fn steps_2_to_6(card: Card, signal: Signal, reading: Record, keys: Keys) -> SignalStep
+    requires { ⌜ CardRanges card × SignalRanges signal × RecordRanges reading ⌝ }
+    ensures { λ step. ⌜ (step ≡ steps2To6 card signal reading keys) × SignalStepRanges step ⌝ }
 {
-    let turn = turned(card, s, r);
-    let old = s.codes;
-    let codes = codes::codes_next(old, r, k);
-    let t = codes::target(card, r.code, codes.raise);
-    let lowered = man_lowered(s.man, turn.man, r.code == s.codes.last, t, r.v);
-    let aging = aged(card, turn.curve, turn.begins, t, k);
-    let man = man_started(aging.starts, lowered, r.v);
-    let curve = aging.curve;
+    let unchanged = reading.code == signal.codes.last;
+    let by_code = step_2_new_code(card, signal, reading);
+    let old = signal.codes;
+    let codes = codes::codes_next(old, reading, keys);
+    let t = codes::target(card, reading.code, codes.raise);
+    let lowered = step_4_man(signal.man, by_code.man, unchanged, t, reading.v);
+    let aged = step_5_curve(
+        card,
+        by_code.curve,
+        by_code.begins,
+        t,
+        keys,
+        lowered,
+        reading.v,
+    );
+    let curve = aged.curve;
+    let man = aged.man;
     let speed = signal_speed(card, curve, man, t);
-    Aspect {
+    SignalStep {
         signal: Signal {
             codes: codes,
             curve: curve,
             man: man,
         },
         target: t,
-        begins: turn.begins,
+        begins: by_code.begins,
         speed: speed,
     }
 }

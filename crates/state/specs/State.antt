@@ -6,20 +6,20 @@ use Rattle.card.specs.Card.{longWait}
 use Rattle.record.specs.Modes.{pos, zav}
 use Rattle.record.specs.Flags.{allButtons}
 use Rattle.signal.specs.Ranges.{noSignal, SignalRanges, signalInRange}
-use Rattle.cyclic.specs.Ranges.{noWatch, WatchRanges, watchInRange}
-use Rattle.onetime.specs.Ranges.{noOnce, OnceRanges, onceInRange}
+use Rattle.cyclic.specs.Ranges.{noCyclic, CyclicRanges, cyclicInRange}
+use Rattle.onetime.specs.Ranges.{noPrompt, PromptRanges, promptInRange}
 use Rattle.causes.specs.Held.{allHeld}
-use Rattle.motion.specs.Direction.{farthest}
+use Rattle.motion.specs.Direction.{mostWrongway}
 use Rattle.state.specs.declared.State.{State}
 
 -- a mode, all else 0
-abbrev pub only : ℕ → State
-only mode = record {
+abbrev pub modeAlone : ℕ → State
+modeAlone mode = record {
   mode = mode;
   buttons = 0;
   signal = noSignal;
-  once = noOnce;
-  watch = noWatch;
+  prompt = noPrompt;
+  cyclic = noCyclic;
   wrongway = 0;
   standing = 0;
   causes = 0;
@@ -27,20 +27,20 @@ only mode = record {
 
 -- mode 1, all else 0
 abbrev pub freshState : State
-freshState = only pos
+freshState = modeAlone pos
 
-pub record StateRanges (s : State) : Type 0 where
-  pub mode-least : pos ≤ s .mode
-  pub mode-most : s .mode ≤ zav
-  pub buttons-most : s .buttons ≤ allButtons
-  pub signal : SignalRanges (s .signal)
-  pub once : OnceRanges (s .once)
-  pub watch : WatchRanges (s .watch)
-  pub wrongway-most : s .wrongway ≤ farthest
-  pub standing-most : s .standing ≤ longWait
-  pub causes-most : s .causes ≤ allHeld
+pub record StateRanges (state : State) : Type 0 where
+  pub mode-least : pos ≤ state .mode
+  pub mode-most : state .mode ≤ zav
+  pub buttons-most : state .buttons ≤ allButtons
+  pub signal : SignalRanges (state .signal)
+  pub prompt : PromptRanges (state .prompt)
+  pub cyclic : CyclicRanges (state .cyclic)
+  pub wrongway-most : state .wrongway ≤ mostWrongway
+  pub standing-most : state .standing ≤ longWait
+  pub causes-most : state .causes ≤ allHeld
 
 unfoldable pub stateInRange : State → Bool
-stateInRange s =
-    leb pos (s .mode) && leb (s .mode) zav && leb (s .buttons) allButtons && signalInRange (s .signal) && onceInRange (s .once)
-    && watchInRange (s .watch) && leb (s .wrongway) farthest && leb (s .standing) longWait && leb (s .causes) allHeld
+stateInRange state =
+    leb pos (state .mode) && leb (state .mode) zav && leb (state .buttons) allButtons && signalInRange (state .signal) && promptInRange (state .prompt)
+    && cyclicInRange (state .cyclic) && leb (state .wrongway) mostWrongway && leb (state .standing) longWait && leb (state .causes) allHeld

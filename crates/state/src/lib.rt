@@ -4,9 +4,9 @@ ghost use Prim.Native.Nat.{_≤_};
 ghost use Rattle.record.specs.Modes.{pos, zav};
 ghost use Rattle.record.specs.Record.{RecordRanges};
 ghost use Rattle.state.specs.State.{freshState, StateRanges, stateInRange};
-ghost use Rattle.state.specs.Mode.{modeNow, entered};
-use cyclic::Watch;
-use onetime::Once;
+ghost use Rattle.state.specs.Mode.{modeNow, step1Mode};
+use cyclic::Cyclic;
+use onetime::Prompt;
 use record::Record;
 use signal::Signal;
 
@@ -16,8 +16,8 @@ pub struct State {
     // the three buttons of the last tick: vigilance, PLUS, MAN
     pub buttons: u8,
     pub signal: Signal,
-    pub once: Once,
-    pub watch: Watch,
+    pub prompt: Prompt,
+    pub cyclic: Cyclic,
     // d, the distance driven the wrong way
     pub wrongway: u16,
     // h, the ticks that the train has stood unbraked
@@ -29,65 +29,65 @@ pub struct State {
 const ALL_BUTTONS: u8 = 7;
 
 pub fn fresh_state() -> State
-    ensures { λ s. ⌜ s ≡ freshState ⌝ }
+    ensures { λ state. ⌜ state ≡ freshState ⌝ }
 {
     State {
         mode: record::POS,
         buttons: 0,
         signal: signal::no_signal(),
-        once: Once { ticks: 0, kind: 0 },
-        watch: Watch { kind: 0, ticks: 0 },
+        prompt: Prompt { ticks: 0, kind: 0 },
+        cyclic: Cyclic { kind: 0, ticks: 0 },
         wrongway: 0,
         standing: 0,
         causes: 0,
     }
 }
 
-pub fn state_in_range(s: State) -> bool
-    ensures { λ x. ⌜ x ≡ stateInRange s ⌝ }
+pub fn state_in_range(state: State) -> bool
+    ensures { λ x. ⌜ x ≡ stateInRange state ⌝ }
 {
-    (record::POS <= s.mode)
-        & (s.mode <= record::ZAV)
-        & (s.buttons <= ALL_BUTTONS)
-        & signal::signal_in_range(s.signal)
-        & onetime::once_in_range(s.once)
-        & cyclic::watch_in_range(s.watch)
-        & (s.wrongway <= motion::FARTHEST)
-        & (s.standing <= card::LONG_WAIT)
-        & (s.causes <= causes::ALL_HELD)
+    (record::POS <= state.mode)
+        & (state.mode <= record::ZAV)
+        & (state.buttons <= ALL_BUTTONS)
+        & signal::signal_in_range(state.signal)
+        & onetime::prompt_in_range(state.prompt)
+        & cyclic::cyclic_in_range(state.cyclic)
+        & (state.wrongway <= motion::MOST_WRONGWAY)
+        & (state.standing <= card::LONG_WAIT)
+        & (state.causes <= causes::ALL_HELD)
 }
 
-fn mode_now(s: State, r: Record) -> u8
-    requires { ⌜ StateRanges s × RecordRanges r ⌝ }
-    ensures { λ m. ⌜ (m ≡ modeNow s r) × ((pos ≤ m) × (m ≤ zav)) ⌝ }
+fn mode_now(state: State, reading: Record) -> u8
+    requires { ⌜ StateRanges state × RecordRanges reading ⌝ }
+    ensures { λ mode. ⌜ (mode ≡ modeNow state reading) × ((pos ≤ mode) × (mode ≤ zav)) ⌝ }
 {
-    if r.v == 0 {
-        return r.mode;
+    if reading.v == 0 {
+        return reading.mode;
     }
-    s.mode
+    state.mode
 }
 
 // Step 1.
-pub fn entered(s: State, r: Record) -> State
-    requires { ⌜ StateRanges s × RecordRanges r ⌝ }
-    ensures { λ x. ⌜ (x ≡ entered s r) × StateRanges x ⌝ }
+pub fn step_1_mode(state: State, reading: Record) -> State
+    requires { ⌜ StateRanges state × RecordRanges reading ⌝ }
+    ensures { λ x. ⌜ (x ≡ step1Mode state reading) × StateRanges x ⌝ }
 {
-    let mode = mode_now(s, r);
-    let mut x = s;
-    x.mode = mode;
-    if mode == s.mode {
+    let mode = mode_now(state, reading);
+    let mut next = state;
+    next.mode = mode;
+    if mode == state.mode {
         if mode == record::PRE {
-            return x;
+            return next;
         }
         let none = signal::no_signal();
-        let quiet = Once { ticks: 0, kind: 0 };
-        x.signal = none;
-        x.once = quiet;
-        return x;
+        let quiet = Prompt { ticks: 0, kind: 0 };
+        next.signal = none;
+        next.prompt = quiet;
+        return next;
     }
     let mut cleared = fresh_state();
     cleared.mode = mode;
-    cleared.buttons = s.buttons;
-    cleared.causes = s.causes;
+    cleared.buttons = state.buttons;
+    cleared.causes = state.causes;
     cleared
 }

@@ -1,6 +1,6 @@
 use mathlib.Core.Path.{sym}
 use mathlib.Core.Bool.{or-false}
-use Rattle.cyclic.specs.Watch.{asksIncreased}
+use Rattle.cyclic.specs.Cyclic.{asksIncreased}
 use borrow.Author.Tests.{eq-eqb, le-ltb, lt-ltb, ne-eqb}
 use borrow.Author.Needs.{needs}
 use Rattle.cyclic.proofs.asks_increased.Statement.{statement}

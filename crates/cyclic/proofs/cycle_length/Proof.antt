@@ -1,4 +1,4 @@
-use Rattle.cyclic.specs.Watch.{cycleLength}
+use Rattle.cyclic.specs.Cyclic.{cycleLength}
 use borrow.Author.Tests.{eq-eqb, ne-eqb}
 use borrow.Author.Needs.{needs}
 use Rattle.cyclic.proofs.cycle_length.Statement.{statement}

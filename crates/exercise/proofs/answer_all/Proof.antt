@@ -10,7 +10,7 @@ use Rattle.card.specs.declared.Card.{Card}
 use Rattle.record.specs.declared.Record.{Record}
 use Rattle.record.proofs.Ranges.{record-ranges}
 use Rattle.state.specs.declared.State.{State}
-use Rattle.rules.specs.declared.Advanced.{Advanced}
+use Rattle.rules.specs.declared.AfterTick.{AfterTick}
 use Rattle.state.specs.State.{StateRanges}
 use Rattle.rules.specs.Tick.{advance}
 use Rattle.rules.specs.After.{after}
@@ -47,7 +47,7 @@ abbrev μ-loop : tie.MeasureT-loop
 μ-loop file card buffer₀ runs s₀ i₀ j₀ buffer s i j = runs - j
 
 -- one tick more
-again : (card : Card) (H : ℕ → Record) (i : ℕ) (s : State) (r : Record) (next : Advanced)
+again : (card : Card) (H : ℕ → Record) (i : ℕ) (s : State) (r : Record) (next : AfterTick)
     → s ≡ after card H i .state → r ≡ H i → next ≡ advance card s r → next ≡ after card H (i + 1)
 again card H i s r next p q n = n ∙ ap₂ (advance card) p q ∙ sym (after-next card H i)
 
@@ -112,12 +112,12 @@ loop2-again c =
       l .inv .0,
       omega (arith, l .inv .1),
       omega (arith, more),
-      ap (λ (x : Advanced). x .state) next,
+      ap (λ (x : AfterTick). x .state) next,
       tick .ensures .1,
       ap length (put .ensures) ∙ length-written _ _ _ (omega (arith, more, l .inv .0 .within, l .inv .5, c .before .before .before .before .before .before .before .before .before .before .before .loop .inv .4, start .pre .2)) ∙ l .inv .5,
       λ b fits e.
           put .ensures
-          ∙ ap₂ (λ (b : List ℕ) (x : Advanced). written b (answerWidth * l .i) (answerBytes (x .answer))) (l .inv .6 b fits e) next
+          ∙ ap₂ (λ (b : List ℕ) (x : AfterTick). written b (answerWidth * l .i) (answerBytes (x .answer))) (l .inv .6 b fits e) next
           ∙ one-more (a .card) (drive (a .file .now)) b (l .i) (omega (arith, more, fits)),
     )
 

@@ -1,6 +1,6 @@
 use mathlib.Core.Path.{sym, ap, _∙_}
 use borrow.Author.Needs.{needs}
-use Rattle.file.specs.declared.Ran.{Ran}
+use Rattle.file.specs.declared.Total.{Total}
 use Rattle.file.proofs.Reader.{runs-number, runs-yes, runs-no}
 use Rattle.exercise.proofs.Outcome.{run-by-cards, run-by-low, run-by-high, run-by-runs, run-by-room, run-by-none}
 use Rattle.exercise.proofs.exercise_outcome.Statement.{statement}
@@ -38,7 +38,7 @@ returns-4 c =
     let c3 = c .before .before .before in
     let none = sym (c3 .before .before .before .before .head-refusal .ensures) ∙ c3 .before .before .before .if1 .left in
     let high = rw (c3 .before .u16-at .ensures) at (c3 .if3 .left) in
-    let e = ap (λ (x : Ran). x .refusal) (c .before .before .runs-read .ensures) ∙ runs-number _ in
+    let e = ap (λ (x : Total). x .refusal) (c .before .before .runs-read .ensures) ∙ runs-number _ in
     c .before .before .runs-read .ensures ∙ runs-no _ (λ z. c .if4 .taken (e ∙ z)) ∙ sym (run-by-runs _ _ _ none (c3 .before .before .if2 .left) high (λ z. c .if4 .taken (e ∙ z)))
 
 cast-if5 : tie.Need-cast-if5
@@ -53,8 +53,8 @@ returns-5 c =
     let c5 = c4 .before in
     let none = sym (c5 .before .before .before .before .head-refusal .ensures) ∙ c5 .before .before .before .if1 .left in
     let high = rw (c5 .before .u16-at .ensures) at (c5 .if3 .left) in
-    let good = sym (ap (λ (x : Ran). x .refusal) (c4 .runs-read .ensures) ∙ runs-number _) ∙ c .before .before .if4 .left in
-    let ticks = ap (λ (x : Ran). x .ticks) (c4 .runs-read .ensures ∙ runs-yes _ good) in
+    let good = sym (ap (λ (x : Total). x .refusal) (c4 .runs-read .ensures) ∙ runs-number _) ∙ c .before .before .if4 .left in
+    let ticks = ap (λ (x : Total). x .ticks) (c4 .runs-read .ensures ∙ runs-yes _ good) in
     sym (run-by-room _ _ _ none (c5 .before .before .if2 .left) high good (rw ticks at (c .if5 .taken)))
 
 returns-6 : tie.Need-returns-6
@@ -63,9 +63,9 @@ returns-6 c =
     let c5 = c4 .before in
     let none = sym (c5 .before .before .before .before .head-refusal .ensures) ∙ c5 .before .before .before .if1 .left in
     let high = rw (c5 .before .u16-at .ensures) at (c5 .if3 .left) in
-    let good = sym (ap (λ (x : Ran). x .refusal) (c4 .runs-read .ensures) ∙ runs-number _) ∙ c .before .before .if4 .left in
+    let good = sym (ap (λ (x : Total). x .refusal) (c4 .runs-read .ensures) ∙ runs-number _) ∙ c .before .before .if4 .left in
     let is = c4 .runs-read .ensures ∙ runs-yes _ good in
-    let ticks = ap (λ (x : Ran). x .ticks) is in
+    let ticks = ap (λ (x : Total). x .ticks) is in
     is ∙ sym (run-by-none _ _ _ none (c5 .before .before .if2 .left) high good (rw ticks at (c .if5 .left)))
 
 pub exercise-outcome-spec : {M : Type 1} → statement M

@@ -6,7 +6,7 @@ use Rattle.card.specs.declared.Card.{Card}
 use Rattle.record.specs.declared.Record.{Record}
 use Rattle.record.specs.Record.{recordInRange}
 use Rattle.record.proofs.Ranges.{record-ranges}
-use Rattle.rules.specs.declared.Advanced.{Advanced}
+use Rattle.rules.specs.declared.AfterTick.{AfterTick}
 use Rattle.state.specs.State.{StateRanges}
 use Rattle.rules.specs.Tick.{advance}
 use Rattle.rules.specs.After.{after}
@@ -18,9 +18,9 @@ use Rattle.journal.proofs.rebuilt.Statement.{statement}
 use Rattle.journal.proofs.rebuilt.Tie as tie
 
 -- one record more
-again : (card : Card) (H : ℕ → Record) (i : ℕ) (last next : Advanced) (r : Record)
+again : (card : Card) (H : ℕ → Record) (i : ℕ) (last next : AfterTick) (r : Record)
     → last ≡ after card H i → r ≡ H i → next ≡ advance card (last .state) r → next ≡ after card H (i + 1)
-again card H i last next r p q n = n ∙ ap₂ (λ (a : Advanced) (x : Record). advance card (a .state) x) p q ∙ sym (after-next card H i)
+again card H i last next r p q n = n ∙ ap₂ (λ (a : AfterTick) (x : Record). advance card (a .state) x) p q ∙ sym (after-next card H i)
 
 abbrev Inv-loop : tie.InvT-loop
 Inv-loop card journal m last₀ i₀ last i = (i ≤ m) × (last ≡ after card (records journal) i) × StateRanges (last .state)

@@ -1,4 +1,4 @@
-use Rattle.onetime.specs.Once.{dueAhead}
+use Rattle.onetime.specs.OneTime.{dueAhead}
 use borrow.Author.Tests.{eq-eqb, ne-eqb}
 use borrow.Author.Needs.{needs}
 use Rattle.onetime.proofs.due_ahead.Statement.{statement}

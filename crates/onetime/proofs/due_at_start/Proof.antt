@@ -1,4 +1,4 @@
-use Rattle.onetime.specs.Once.{dueAtStart}
+use Rattle.onetime.specs.OneTime.{dueAtStart}
 use borrow.Author.Needs.{needs}
 use Rattle.onetime.proofs.due_at_start.Statement.{statement}
 use Rattle.onetime.proofs.due_at_start.Tie as tie

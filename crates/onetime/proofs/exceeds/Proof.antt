@@ -1,4 +1,4 @@
-use Rattle.onetime.specs.Once.{exceeds}
+use Rattle.onetime.specs.OneTime.{exceeds}
 use borrow.Author.Needs.{needs}
 use Rattle.onetime.proofs.exceeds.Statement.{statement}
 use Rattle.onetime.proofs.exceeds.Tie as tie

@@ -1,4 +1,4 @@
-use Rattle.onetime.specs.Once.{lead}
+use Rattle.onetime.specs.OneTime.{lead}
 use borrow.Author.Tests.{le-leb, lt-leb}
 use borrow.Author.Needs.{needs}
 use Rattle.onetime.proofs.lead.Statement.{statement}

@@ -3,18 +3,18 @@ use borrow.Author.Needs.{needs}
 use Rattle.rules.proofs.advance.Statement.{statement}
 use Rattle.rules.proofs.advance.Tie as tie
 
-entered-requires : tie.Need-entered-requires
-entered-requires c κs = search needs
+step-1-mode-requires : tie.Need-step-1-mode-requires
+step-1-mode-requires c κs = search needs
 
-found-requires : tie.Need-found-requires
-found-requires c κs = search needs
+steps-2-to-9-requires : tie.Need-steps-2-to-9-requires
+steps-2-to-9-requires c κs = search needs
 
-ticked-requires : tie.Need-ticked-requires
-ticked-requires c κs = search needs
+steps-2-to-10-requires : tie.Need-steps-2-to-10-requires
+steps-2-to-10-requires c κs = search needs
 
 returns : tie.Need-returns
 unfolding advance
-returns c = (simp (← c .ticked .ensures .0, ← c .before .found .ensures, ← c .before .before .entered .ensures .0), search needs)
+returns c = (simp (← c .steps-2-to-10 .ensures .0, ← c .before .steps-2-to-9 .ensures, ← c .before .before .step-1-mode .ensures .0), search needs)
 
 pub advance-spec : {M : Type 1} → statement M
-advance-spec = tie.close (tie.spec entered-requires found-requires ticked-requires returns)
+advance-spec = tie.close (tie.spec step-1-mode-requires steps-2-to-9-requires steps-2-to-10-requires returns)

@@ -9,11 +9,11 @@ use Rattle.rules.proofs.state_next.Tie as tie
 triggers-in-requires : tie.Need-triggers-in-requires
 triggers-in-requires c κs = search needs
 
-mask-next-requires : tie.Need-mask-next-requires
-mask-next-requires c κs = search needs
+step-10-mask-requires : tie.Need-step-10-mask-requires
+step-10-mask-requires c κs = search needs
 
-wrongway-left-requires : tie.Need-wrongway-left-requires
-wrongway-left-requires c κs = search needs
+step-10-wrongway-requires : tie.Need-step-10-wrongway-requires
+step-10-wrongway-requires c κs = search needs
 
 returns : tie.Need-returns
 unfolding releasesIn heldNext wrongwayNext stateNext
@@ -22,9 +22,9 @@ returns c =
     let triggers = c4 .before .before .before in
     let given = triggers .before .pre in
     and-so StateRanges
-    (rw (c4 .wrongway-left .ensures .0, c4 .before .mask-next .ensures .0, triggers .triggers-in .ensures, given .3))
+    (rw (c4 .step-10-wrongway .ensures .0, c4 .before .step-10-mask .ensures .0, triggers .triggers-in .ensures, given .3))
     (state-next-ranges _ _ _ (given .0) (given .1) (given .2))
 
 pub state-next-spec : {M : Type 1} → statement M
 state-next-spec =
-    tie.close (tie.spec triggers-in-requires mask-next-requires wrongway-left-requires returns)
+    tie.close (tie.spec triggers-in-requires step-10-mask-requires step-10-wrongway-requires returns)

@@ -8,7 +8,7 @@ use Rattle.record.specs.declared.Record.{Record}
 use Rattle.record.specs.Record.{recordWidth, recordInRange, putRecord}
 use Rattle.record.proofs.Ranges.{record-ranges}
 use Rattle.record.proofs.Refusal.{sample-in-range}
-use Rattle.rules.specs.declared.Advanced.{Advanced}
+use Rattle.rules.specs.declared.AfterTick.{AfterTick}
 use Rattle.rules.specs.Tick.{advance}
 use Rattle.desk.specs.Calls.{refused, accepted, tickRefusalOf, tickRefusal}
 use Rattle.journal.proofs.Room.{room}
@@ -72,7 +72,7 @@ returns-2 c =
     let yes = tick-yes (a .self) (a .sample) (now (a .journal)) (sym (number (c .before .before .before .before .before .before .before .before .before .before .before .before)) ∙ c .before .before .before .before .before .before .before .before .before .before .before .if1 .left) in
     let e = c .before .before .before .before .before .before .before .before .before .before .before .before .before .take-sample .ensures .1 in (
       c .accepted .ensures
-          ∙ ap (λ (x : Advanced). accepted (a .self .card) (a .self .n + 1) x) (c .before .advance .ensures .0 ∙ ap (λ (r : Record). advance (a .self .card) (a .self .state) r) e)
+          ∙ ap (λ (x : AfterTick). accepted (a .self .card) (a .self .n + 1) x) (c .before .advance .ensures .0 ∙ ap (λ (r : Record). advance (a .self .card) (a .self .state) r) e)
           ∙ sym (yes .0),
       c .before .before .before .before .before .put-record .ensures ∙ ap (putRecord (now (a .journal)) (recordWidth * a .self .n)) e ∙ sym (yes .1),
     )
