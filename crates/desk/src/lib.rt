@@ -195,7 +195,6 @@ impl Desk {
         if !desk_in_range(self) {
             return refused(self, refusal::BAD_DESK);
         }
-        let card = self.card;
-        begun(card)
+        begun(self.card)
     }
 }

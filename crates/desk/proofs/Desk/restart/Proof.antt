@@ -18,7 +18,7 @@ begun-requires c κs = search needs
 
 returns-2 : tie.Need-returns-2
 unfolding restartOutcome
-returns-2 c = simp (← c .begun .ensures, c .before .before .if1 .left, ← c .before .before .before .desk-in-range .ensures)
+returns-2 c = simp (← c .begun .ensures, c .before .if1 .left, ← c .before .before .desk-in-range .ensures)
 
 pub restart-spec : {M : Type 1} → statement M
 restart-spec =
