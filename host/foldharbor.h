@@ -16,10 +16,108 @@
 extern "C" {
 #endif
 
-enum {
-    FOLDHARBOR_MOST_TICKS = 7200, /* a tick is 0.1 s, so an exercise lasts 12 minutes at most */
-    FOLDHARBOR_ANSWER_BYTES = 8,  /* written for each tick */
-    FOLDHARBOR_MOST_BYTES = 60170 /* length of the longest exercise file: 8 cards and 6,000 runs */
+/*
+ * An exercise file: a header, the cards, the runs, and nothing behind them. A run is so many ticks of one record; a
+ * tick is 0.1 s. Numbers of 16 bits have their low byte first; speeds are in tenths of km/h. docs/FORMATS.md says the
+ * same with examples.
+ */
+enum { /* sizes in bytes, and limits */
+    FOLDHARBOR_HEADER_BYTES = 10,
+    FOLDHARBOR_CARD_BYTES = 20,
+    FOLDHARBOR_RECORD_BYTES = 8,
+    FOLDHARBOR_RUN_BYTES = 2 + FOLDHARBOR_RECORD_BYTES,
+    FOLDHARBOR_ANSWER_BYTES = 8, /* written for each tick */
+    FOLDHARBOR_MOST_CARDS = 8,   /* and at least one */
+    FOLDHARBOR_MOST_RUNS = 6000,
+    FOLDHARBOR_MOST_TICKS = 7200, /* of all runs together: 12 minutes */
+    /* length of the longest file */
+    FOLDHARBOR_MOST_BYTES = FOLDHARBOR_HEADER_BYTES + FOLDHARBOR_MOST_CARDS * FOLDHARBOR_CARD_BYTES +
+                            FOLDHARBOR_MOST_RUNS * FOLDHARBOR_RUN_BYTES
+};
+
+enum { /* places in the header, 16 bits each */
+    FOLDHARBOR_FILE_CARDS = 0,        /* count */
+    FOLDHARBOR_FILE_RUNS = 2,         /* count */
+    FOLDHARBOR_FILE_CARDS_OFFSET = 4, /* where the cards begin: behind the header */
+    FOLDHARBOR_FILE_RUNS_OFFSET = 6,  /* where the runs begin: behind the cards */
+    FOLDHARBOR_FILE_LENGTH = 8        /* of the whole file */
+};
+
+enum { /* places in a card, 16 bits each */
+    FOLDHARBOR_CARD_DESIGN = 0,        /* design speed: from 1 to FOLDHARBOR_MOST_SPEED, as the next four */
+    FOLDHARBOR_CARD_SET = 2,           /* set speed */
+    FOLDHARBOR_CARD_HIGHEST = 4,       /* highest speed */
+    FOLDHARBOR_CARD_POS = 6,           /* ceiling of mode POS */
+    FOLDHARBOR_CARD_ZAV = 8,           /* ceiling of mode ZAV */
+    FOLDHARBOR_CARD_TOLERANCE = 10,    /* over the permitted speed before NZ2 */
+    FOLDHARBOR_CARD_STOP = 12,         /* target of code Stop */
+    FOLDHARBOR_CARD_DECELERATION = 14, /* of a braking curve, in tenths of km/h per second */
+    FOLDHARBOR_CARD_CYCLE = 16,        /* of ordinary vigilance, in ticks */
+    FOLDHARBOR_CARD_WAIT = 18          /* of the movement check, in ticks: short or long, no other */
+};
+
+enum { /* limits of a card's numbers, and of a record's speed; where no least is named it is 0 */
+    FOLDHARBOR_MOST_SPEED = 2500,
+    FOLDHARBOR_MOST_TOLERANCE = 100,
+    FOLDHARBOR_MOST_STOP = 400,
+    FOLDHARBOR_LEAST_DECELERATION = 5,
+    FOLDHARBOR_MOST_DECELERATION = 40,
+    FOLDHARBOR_LEAST_CYCLE = 150,
+    FOLDHARBOR_MOST_CYCLE = 600,
+    FOLDHARBOR_SHORT_WAIT = 250,
+    FOLDHARBOR_LONG_WAIT = 1000
+};
+
+enum { /* places in a run */
+    FOLDHARBOR_RUN_TICKS = 0, /* 16 bits, at least 1 */
+    FOLDHARBOR_RUN_RECORD = 2
+};
+
+enum { /* places in a record */
+    FOLDHARBOR_RECORD_SPEED = 0, /* 16 bits; the others have 8 */
+    FOLDHARBOR_RECORD_CODE = 2,
+    FOLDHARBOR_RECORD_MODE = 3, /* asked for; the desk takes it where the speed is 0 */
+    FOLDHARBOR_RECORD_LEVER = 4,
+    FOLDHARBOR_RECORD_FLAGS = 5,
+    FOLDHARBOR_RECORD_BAND = 6, /* of the pressure in the main line */
+    FOLDHARBOR_RECORD_SENSE = 7 /* of motion */
+};
+
+enum { /* signal codes */
+    FOLDHARBOR_CODE_NONE = 0,
+    FOLDHARBOR_CODE_STOP = 1,
+    FOLDHARBOR_CODE_WARNING = 2,
+    FOLDHARBOR_CODE_FORTY = 3, /* "40 and warning" */
+    FOLDHARBOR_CODE_CLEAR = 4
+};
+
+enum { /* modes */
+    FOLDHARBOR_MODE_POS = 1, /* shunting; a fresh desk is in it */
+    FOLDHARBOR_MODE_PRE = 2, /* operation under signal codes */
+    FOLDHARBOR_MODE_VYL = 3, /* lockout: operation without signal codes */
+    FOLDHARBOR_MODE_ZAV = 4  /* dead in tow */
+};
+
+enum { /* of the lever, and of motion */
+    FOLDHARBOR_NO_DIRECTION = 0,
+    FOLDHARBOR_FORWARD = 1,
+    FOLDHARBOR_REVERSE = 2
+};
+
+enum { /* bits of a record's flags; the highest bit is 0 */
+    FOLDHARBOR_FLAG_VIGILANCE = 1 << 0, /* the first three are buttons: what counts is the tick that presses one */
+    FOLDHARBOR_FLAG_PLUS = 1 << 1,
+    FOLDHARBOR_FLAG_MAN = 1 << 2,
+    FOLDHARBOR_FLAG_DIRECT_BRAKE = 1 << 3,
+    FOLDHARBOR_FLAG_REMOTE_STOP = 1 << 4,
+    FOLDHARBOR_FLAG_ADHESION_LOSS = 1 << 5,
+    FOLDHARBOR_FLAG_CAB_ON = 1 << 6
+};
+
+enum { /* bands of the pressure, in bar */
+    FOLDHARBOR_BAND_BELOW_3_5 = 0,
+    FOLDHARBOR_BAND_BELOW_4_5 = 1, /* and from 3.5 */
+    FOLDHARBOR_BAND_FROM_4_5 = 2   /* brakes released */
 };
 
 /*
@@ -28,26 +126,27 @@ enum {
  * The two about a run are looked for in one run after the other, so an earlier run comes first.
  */
 enum {
-    FOLDHARBOR_BAD_LAYOUT = 10010, /* shorter than 10 bytes, a count out of range (cards 1 to 8, runs 0 to 6,000),
-                                      or an offset, the total or the real length is not what the counts give */
+    FOLDHARBOR_BAD_LAYOUT = 10010, /* shorter than a header, a count out of range, or an offset, the total or the
+                                      real length is not what the counts give */
     FOLDHARBOR_BAD_CARD = 10004,   /* any card of the file, asked for or not, has a number out of its range */
     FOLDHARBOR_NO_CARD = 10013,    /* the file has no card of the asked number: 0, or above its count */
-    FOLDHARBOR_BAD_TICKS = 10011,  /* a run of 0 ticks, or one that takes the sum of ticks over 7,200 */
+    FOLDHARBOR_BAD_TICKS = 10011,  /* a run of 0 ticks, or one that takes the sum of ticks over the most */
     FOLDHARBOR_BAD_RECORD = 10009, /* a run's record has a field out of its range */
     FOLDHARBOR_NO_ROOM = 10012,    /* the answer buffer has fewer than 8 bytes for each tick */
     FOLDHARBOR_REFUSED = 10000     /* a returned number above this one is a refusal, any other a count of ticks */
 };
 
 /*
- * The 8 bytes of one answer. Speeds are in tenths of km/h, low byte first.
- *
- *   0, 1   permitted speed P
- *   2, 3   target speed T of the signal code; 0 outside mode PRE, and under Stop where the card says so
- *   4      marks, see below
- *   5      causes that are held, see below; the valve is open exactly when this byte is not 0
- *   6      number of the lowest held cause, 1 to 5; 0 if none is held
- *   7      how many causes are held, 0 to 5
+ * An answer: what the desk shows after a tick. The valve is open exactly when the byte of the causes is not 0.
  */
+enum { /* places in an answer; the first two have 16 bits, the others 8 */
+    FOLDHARBOR_ANSWER_PERMITTED = 0, /* permitted speed P */
+    FOLDHARBOR_ANSWER_TARGET = 2,    /* target speed T of the signal code; 0 outside mode PRE */
+    FOLDHARBOR_ANSWER_MARKS = 4,
+    FOLDHARBOR_ANSWER_CAUSES = 5, /* that are held */
+    FOLDHARBOR_ANSWER_LOWEST = 6, /* number of the lowest held cause, 1 to 5; 0 if none is held */
+    FOLDHARBOR_ANSWER_HELD = 7    /* how many causes are held, 0 to 5 */
+};
 enum { /* bits of the marks */
     FOLDHARBOR_MAN = 1 << 0,             /* MAN is on */
     FOLDHARBOR_CURVE = 1 << 1,           /* a braking curve is running */
@@ -75,9 +174,6 @@ enum { /* bits of the causes */
  * A refusal returns one of the numbers above and leaves the whole buffer as it was.
  *
  * Both pointers are valid for their lengths, not null even if the length is 0, and the two areas do not overlap.
- *
- * The file: five 16-bit numbers (count of cards, count of runs, offset of the cards, which is 10, offset of the
- * runs, total length), the cards of 20 bytes, the runs of 10 bytes (ticks in 16 bits, a record of 8 bytes).
  */
 uint32_t foldharbor_run_exercise(const uint8_t *exercise, size_t exercise_length, uint32_t card, uint8_t *answers,
                                  size_t answers_length);
