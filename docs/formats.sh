@@ -1,5 +1,5 @@
 #!/usr/bin/env bash
-# Whether FORMATS.md is true. Programs and target/host/header are built before; NAMEs are files.
+# Whether FORMATS.md and tests/README.md are true. Programs and target/host/header are built before; NAMEs are files.
 #   ```hex NAME, ```text NAME       the file's bytes (behind # a comment), or its lines
 #   ```sh NAME FILE                 commands that write FILE, which has to be NAME
 #   ```prints COMMAND               what a program prints, with its words and files
@@ -15,7 +15,7 @@ trap 'rm -rf "$room"' EXIT
 declare -A seen constants listed
 missed=0
 miss() {
-    echo "FORMATS.md:$number: $1"
+    echo "$page:$number: $1"
     missed=1
 }
 
@@ -141,37 +141,39 @@ check_row() {
 }
 
 cd "$room" || exit 1
-page=$root/docs/FORMATS.md
+ln -s "$root/tests" tests
 wanted=("tour:tour.made")
-# first the blocks, then the tables, which may stand before their example
-number=0 fence=''
-while IFS= read -r line; do
-    number=$((number + 1))
-    if [[ $line != '```'* ]]; then
-        [ -z "$fence" ] || printf '%s\n' "$line" >>.block
-    elif [ -n "$fence" ]; then
-        end_block
-        fence=''
-    else
-        fence=${line#'```'}
-        : >.block
-    fi
-done <"$page"
-number=0 table=''
-while IFS= read -r line; do
-    number=$((number + 1))
-    if [[ $line =~ ^'<!-- '((bytes|changed|floats).*)' -->'$ ]]; then
-        table=${BASH_REMATCH[1]}
-        next=0
-        seen[${table%% *}]=1
-    elif [[ $line == '|'* ]]; then
-        check_row "$line"
-        rows=1
-    elif [ "$rows" = 1 ]; then
-        table=''
-        rows=0
-    fi
-done <"$page"
+for page in docs/FORMATS.md tests/README.md; do
+    # first the blocks, then the tables, which may stand before their example
+    number=0 fence=''
+    while IFS= read -r line; do
+        number=$((number + 1))
+        if [[ $line != '```'* ]]; then
+            [ -z "$fence" ] || printf '%s\n' "$line" >>.block
+        elif [ -n "$fence" ]; then
+            end_block
+            fence=''
+        else
+            fence=${line#'```'}
+            : >.block
+        fi
+    done <"$root/$page"
+    number=0 table='' rows=0
+    while IFS= read -r line; do
+        number=$((number + 1))
+        if [[ $line =~ ^'<!-- '((bytes|changed|floats).*)' -->'$ ]]; then
+            table=${BASH_REMATCH[1]}
+            next=0
+            seen[${table%% *}]=1
+        elif [[ $line == '|'* ]]; then
+            check_row "$line"
+            rows=1
+        elif [ $rows = 1 ]; then
+            table=''
+            rows=0
+        fi
+    done <"$root/$page"
+done
 for pair in "${wanted[@]}"; do
     cmp "${pair%%:*}" "${pair#*:}" || miss "${pair#*:} is not ${pair%%:*}"
 done
