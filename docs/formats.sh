@@ -1,6 +1,7 @@
 #!/usr/bin/env bash
 # Whether FORMATS.md and tests/README.md are true. Programs and target/host/header are built before; NAMEs are files.
-#   ```hex NAME, ```text NAME       the file's bytes (behind # a comment), or its lines
+#   ```hex NAME                     the file's bytes (behind # a comment)
+#   ```text NAME TABLE              the file's lines, of which the program table makes TABLE
 #   ```sh NAME FILE                 commands that write FILE, which has to be NAME
 #   ```prints COMMAND               what a program prints, with its words and files
 #   <!-- bytes NAME FROM -->        a table: places counted from FROM, in the last column the bytes there and their number
@@ -14,10 +15,11 @@ room=$(mktemp -d)
 trap 'rm -rf "$room"' EXIT
 declare -A seen constants listed
 missed=0
-miss() {
-    echo "$page:$number: $1"
+fail() {
+    echo "$1"
     missed=1
 }
+miss() { fail "$page:$number: $1"; }
 
 program() {
     local name=$1
@@ -51,8 +53,15 @@ end_block() {
             is_hex "${bytes[@]}" || miss "not bytes in hex"
             write "${bytes[@]}" >"$name"
             ;;
-        text) cp .block "$name" ;;
-        sh) wanted+=("$name:$rest") && { sh .block || miss "the commands fail"; } ;;
+        text)
+            cp .block "$name"
+            program table <"$name" >"$name.made"
+            wanted+=("$rest:$name.made")
+            ;;
+        sh)
+            sh .block || miss "the commands fail"
+            wanted+=("$name:$rest")
+            ;;
         prints)
             eval "program $name $rest" </dev/null >.out
             diff .block .out || miss "$name $rest prints something else"
@@ -175,8 +184,8 @@ for page in docs/FORMATS.md tests/README.md; do
     done <"$root/$page"
 done
 for pair in "${wanted[@]}"; do
-    cmp "${pair%%:*}" "${pair#*:}" || miss "${pair#*:} is not ${pair%%:*}"
+    cmp "${pair%%:*}" "${pair#*:}" || fail "${pair#*:} is not ${pair%%:*} of the page"
 done
-for kind in hex text sh prints bytes changed floats; do [ -n "${seen[$kind]}" ] || miss "no $kind"; done
-for name in "${!constants[@]}"; do [ -n "${listed[$name]}" ] || miss "$name of the header is missing"; done
+for kind in hex text sh prints bytes changed floats; do [ -n "${seen[$kind]}" ] || fail "no $kind"; done
+for name in "${!constants[@]}"; do [ -n "${listed[$name]}" ] || fail "$name of the header is missing"; done
 exit $missed
