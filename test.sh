@@ -92,12 +92,12 @@ check "rt staticlib host" rt staticlib host
 made=target/host
 check "cc vectors" sh host/build.sh $made/vectors host/vectors.c
 check "cc compare" sh host/build.sh $made/compare host/compare.c host/generate.c host/model.c
+check "cc header" sh host/build.sh $made/header host/header.c
 check "cc bench" sh host/build.sh $made/bench host/bench.c host/generate.c host/model.c
 check "cc texts" sh host/build.sh $made/texts host/texts.c
-check "cc header" sh host/build.sh $made/header host/header.c
 check "cc example" sh host/build.sh $made/example host/example.c
-check "docs/FORMATS.md, its examples and the header's names" bash docs/formats.sh
 check "the C call on the exercises" sh host/run.sh $made/vectors tests/exercises
+check "docs/FORMATS.md, its examples and the header's names" bash docs/formats.sh
 check "the C call against the model" sh host/run.sh $made/compare
 check "the text call against the model" sh host/run.sh $made/texts
 for language in slovak english; do
