@@ -1,4 +1,5 @@
 // The messages of two tables of texts on standard output, one of them or all side by side.
+// What prints answers whether all of it was written, and stops where it was not.
 use libc::STDOUT_FILENO;
 use texts::MOST_MESSAGES;
 
@@ -8,31 +9,38 @@ const SPACES: [u8; MOST_SPACES] = [b' '; MOST_SPACES];
 
 const MOST_ROWS: u32 = MOST_MESSAGES as u32;
 
-fn print_refused(refusal: u8) {
-    io::write_all(STDOUT_FILENO, b"refused ");
-    io::print_decimal(STDOUT_FILENO, refusal as u64);
-    io::write_all(STDOUT_FILENO, b"\n");
+fn print_refused(refusal: u8) -> bool {
+    if !io::write_all(STDOUT_FILENO, b"refused ") {
+        return false;
+    }
+    if !io::print_decimal(STDOUT_FILENO, refusal as u64) {
+        return false;
+    }
+    io::write_all(STDOUT_FILENO, b"\n")
 }
 
-fn print_spaces(count: usize) {
+fn print_spaces(count: usize) -> bool {
     let mut left = count;
     while left > MOST_SPACES {
-        io::write_all(STDOUT_FILENO, &SPACES);
+        if !io::write_all(STDOUT_FILENO, &SPACES) {
+            return false;
+        }
         left -= MOST_SPACES;
     }
-    io::write_all(STDOUT_FILENO, &SPACES[..left]);
+    io::write_all(STDOUT_FILENO, &SPACES[..left])
 }
 
 // Prints one message, or its refusal.
-pub fn show_one<'a>(first: &'a [u8], second: &'a [u8], language: u32, number: u32) {
+pub fn show_one<'a>(first: &'a [u8], second: &'a [u8], language: u32, number: u32) -> bool {
     let mut refusal = 0u8;
     let text = texts::text(first, second, language, number, &mut refusal);
     if refusal != 0 {
-        print_refused(refusal);
-        return;
+        return print_refused(refusal);
     }
-    io::write_all(STDOUT_FILENO, text);
-    io::write_all(STDOUT_FILENO, b"\n");
+    if !io::write_all(STDOUT_FILENO, text) {
+        return false;
+    }
+    io::write_all(STDOUT_FILENO, b"\n")
 }
 
 // How many characters the longest text of the first table has.
@@ -51,35 +59,58 @@ fn widest<'a>(first: &'a [u8], second: &'a [u8]) -> usize {
     most
 }
 
-// Prints a message of both tables, the first's in so wide a column; answers whether either table has it.
+// Prints a message's number in two columns, and two spaces.
+fn print_number(number: u32) -> bool {
+    if number < 10 {
+        if !print_spaces(1) {
+            return false;
+        }
+    }
+    if !io::print_decimal(STDOUT_FILENO, number as u64) {
+        return false;
+    }
+    print_spaces(2)
+}
+
+// Prints a text behind the one on its left, which stands in so wide a column.
+fn print_beside(left: &[u8], width: usize, right: &[u8]) -> bool {
+    let used = utf8::characters(left);
+    if used < width {
+        if !print_spaces(width - used) {
+            return false;
+        }
+    }
+    if !print_spaces(2) {
+        return false;
+    }
+    io::write_all(STDOUT_FILENO, right)
+}
+
+// Prints a message of both tables, the first's in so wide a column; nothing where neither table has it.
 fn show_row<'a>(first: &'a [u8], second: &'a [u8], number: u32, width: usize) -> bool {
     let mut left_refused = 0u8;
     let left = texts::text(first, second, 1, number, &mut left_refused);
     let mut right_refused = 0u8;
     let right = texts::text(first, second, 2, number, &mut right_refused);
     if (left_refused != 0) & (right_refused != 0) {
+        return true;
+    }
+    if !print_number(number) {
         return false;
     }
-    if number < 10 {
-        print_spaces(1);
+    if !io::write_all(STDOUT_FILENO, left) {
+        return false;
     }
-    io::print_decimal(STDOUT_FILENO, number as u64);
-    print_spaces(2);
-    io::write_all(STDOUT_FILENO, left);
     if right.len() != 0 {
-        let used = utf8::characters(left);
-        if used < width {
-            print_spaces(width - used);
+        if !print_beside(left, width, right) {
+            return false;
         }
-        print_spaces(2);
-        io::write_all(STDOUT_FILENO, right);
     }
-    io::write_all(STDOUT_FILENO, b"\n");
-    true
+    io::write_all(STDOUT_FILENO, b"\n")
 }
 
 // Prints every message of both tables, or the refusal of one that is bad.
-pub fn show_all<'a>(first: &'a [u8], second: &'a [u8]) {
+pub fn show_all<'a>(first: &'a [u8], second: &'a [u8]) -> bool {
     // a good table has a message 0
     let mut refusal = 0u8;
     texts::text(first, second, 1, 0, &mut refusal);
@@ -87,15 +118,15 @@ pub fn show_all<'a>(first: &'a [u8], second: &'a [u8]) {
         texts::text(first, second, 2, 0, &mut refusal);
     }
     if refusal != 0 {
-        print_refused(refusal);
-        return;
+        return print_refused(refusal);
     }
     let width = widest(first, second);
     let mut number = 0u32;
     while number < MOST_ROWS {
         if !show_row(first, second, number, width) {
-            return;
+            return false;
         }
         number += 1;
     }
+    true
 }

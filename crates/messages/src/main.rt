@@ -1,6 +1,7 @@
 // Shows the messages of two tables of texts, which two files hold:
 //   messages FIRST SECOND                    each message on a line: its number, the first table's text, the second's
 //   messages FIRST SECOND LANGUAGE NUMBER    that message alone, or `refused` and the number of the refusal
+// That a file can't be read, or the output not be written, is told on standard error and ends the program.
 use libc::STDERR_FILENO;
 use texts::MOST_BYTES;
 
@@ -12,7 +13,7 @@ enum Said {
 
 const MOST_NUMBER: u64 = 4294967295;
 
-// Tells why a file could not be opened or read.
+// Tells why a file could not be opened or read, or the output not be written.
 fn tell(name: &[u8]) {
     io::write_all(STDERR_FILENO, b"messages: ");
     os::fail(name);
@@ -77,6 +78,13 @@ fn number_at(argument: usize) -> Said {
     number_of(&word[..n])
 }
 
+// Tells where not all of the output was written.
+fn written(all: bool) {
+    if !all {
+        tell(b"standard output");
+    }
+}
+
 fn usage() {
     io::write_all(
         STDERR_FILENO,
@@ -104,7 +112,7 @@ fn main() {
     let n = io::count(got, &first);
     let m = io::count(other, &second);
     if words == 3 {
-        listing::show_all(&first[..n], &second[..m]);
+        written(listing::show_all(&first[..n], &second[..m]));
         return;
     }
     let Said::Number(language) = number_at(3) else {
@@ -115,5 +123,5 @@ fn main() {
         usage();
         return;
     };
-    listing::show_one(&first[..n], &second[..m], language, number);
+    written(listing::show_one(&first[..n], &second[..m], language, number));
 }

@@ -1,4 +1,5 @@
 // Prints, for bit patterns at the edges of what a sample may hold, the pattern, its v as a speed and its band as a pressure.
+// That the output can't be written is told on standard error and ends the program.
 use libc::STDOUT_FILENO;
 
 const PATTERNS: [u32; 35] = [
@@ -39,32 +40,41 @@ const PATTERNS: [u32; 35] = [
     0xffffffff, // NaN, all ones
 ];
 
-// A number, or `refused`.
-fn print(refusal: u8, number: u64) {
-    if refusal == 0 {
-        io::print_decimal(STDOUT_FILENO, number);
-    } else {
-        io::write_all(STDOUT_FILENO, b"refused");
+// A space, and a number or `refused`. This and what prints below answer whether all of it was written.
+fn print(refusal: u8, number: u64) -> bool {
+    if refusal != 0 {
+        return io::write_all(STDOUT_FILENO, b" refused");
     }
+    if !io::write_all(STDOUT_FILENO, b" ") {
+        return false;
+    }
+    io::print_decimal(STDOUT_FILENO, number)
 }
 
-fn print_line(bits: u32) {
+fn print_line(bits: u32) -> bool {
     let x = reading::float_of_bits(bits);
-    io::print_hex(STDOUT_FILENO, bits as u64, 8);
-    io::write_all(STDOUT_FILENO, b" ");
+    if !io::print_hex(STDOUT_FILENO, bits as u64, 8) {
+        return false;
+    }
     let s = reading::speed_of(x);
-    print(reading::speed_refusal(s), reading::speed_value(s) as u64);
-    io::write_all(STDOUT_FILENO, b" ");
+    if !print(reading::speed_refusal(s), reading::speed_value(s) as u64) {
+        return false;
+    }
     let p = reading::pressure_of(x);
-    print(
+    if !print(
         reading::pressure_refusal(p),
         reading::pressure_band(p) as u64,
-    );
-    io::write_all(STDOUT_FILENO, b"\n");
+    ) {
+        return false;
+    }
+    io::write_all(STDOUT_FILENO, b"\n")
 }
 
 fn main() {
     for i in 0..PATTERNS.len() {
-        print_line(PATTERNS[i]);
+        if !print_line(PATTERNS[i]) {
+            os::fail(b"readings: standard output");
+            return;
+        }
     }
 }

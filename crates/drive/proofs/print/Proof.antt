@@ -1,3 +1,4 @@
+-- `print` is safe: what is written is a part of the line, by the contract of `line_of`.
 use mathlib.Core.Path.{sym}
 use lib.Seq.{length-take-le}
 use borrow.Author.Needs.{needs}
@@ -11,13 +12,19 @@ line-of-requires : tie.Need-line-of-requires
 line-of-requires c κs = search needs
 
 array-share-prefix-line : tie.Need-array-share-prefix-line
-array-share-prefix-line c = c .line-of .ensures .0 .1
+array-share-prefix-line c = search needs
 
 slice-aggregate-write-all : tie.Need-slice-aggregate-write-all
 slice-aggregate-write-all c = sym (length-take-le _ _ (c .before .line-of .ensures .0 .1))
 
 write-all-requires : tie.Need-write-all-requires
 write-all-requires c κs = search needs
+
+write-failed-requires : tie.Need-write-failed-requires
+write-failed-requires c κs = search needs
+
+returns : tie.Need-returns
+returns c = search needs
 
 enum-told : tie.Need-enum-told
 enum-told c = search needs
@@ -28,11 +35,17 @@ slice-aggregate-write-all-2 c = search needs
 write-all-requires-2 : tie.Need-write-all-requires-2
 write-all-requires-2 c κs = search needs
 
-returns : tie.Need-returns
-returns c = search needs
+write-failed-requires-2 : tie.Need-write-failed-requires-2
+write-failed-requires-2 c κs = search needs
 
 returns-2 : tie.Need-returns-2
 returns-2 c = search needs
+
+returns-3 : tie.Need-returns-3
+returns-3 c = search needs
+
+returns-4 : tie.Need-returns-4
+returns-4 c = search needs
 
 pub print-spec : {M : Type 1} → statement M
 print-spec =
@@ -43,8 +56,12 @@ print-spec =
     array-share-prefix-line
     slice-aggregate-write-all
     write-all-requires
+    write-failed-requires
+    returns
     enum-told
     slice-aggregate-write-all-2
     write-all-requires-2
-    returns
-    returns-2)
+    write-failed-requires-2
+    returns-2
+    returns-3
+    returns-4)

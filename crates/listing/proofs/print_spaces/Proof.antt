@@ -22,6 +22,9 @@ slice-aggregate-write-all c = search needs
 write-all-requires : tie.Need-write-all-requires Inv-loop μ-loop
 write-all-requires c κs = search needs
 
+returns : tie.Need-returns Inv-loop μ-loop
+returns c = search needs
+
 sub-left : tie.Need-sub-left Inv-loop μ-loop
 sub-left c = search needs
 
@@ -40,8 +43,8 @@ slice-aggregate-write-all-2 c = sym (length-take-le _ _ (omega arith))
 write-all-requires-2 : tie.Need-write-all-requires-2 Inv-loop μ-loop
 write-all-requires-2 c κs = search needs
 
-returns : tie.Need-returns Inv-loop μ-loop
-returns c = search needs
+returns-2 : tie.Need-returns-2 Inv-loop μ-loop
+returns-2 c = search needs
 
 pub print-spaces-spec : {M : Type 1} → statement M
 print-spaces-spec =
@@ -52,10 +55,11 @@ print-spaces-spec =
     loop-holds
     slice-aggregate-write-all
     write-all-requires
+    returns
     sub-left
     loop-less
     loop-again
     array-share-prefix-write-all
     slice-aggregate-write-all-2
     write-all-requires-2
-    returns)
+    returns-2)

@@ -1,3 +1,4 @@
+-- `show` is safe and ends: the measure is what is left of the cards.
 use Prim.Native.Nat.{_-_, _≤_}
 use borrow.Author.Needs.{needs}
 use Rattle.show.proofs.show.Statement.{statement}
@@ -36,14 +37,17 @@ add-card c = search needs
 show-card-requires : tie.Need-show-card-requires Inv-loop μ-loop
 show-card-requires c κs = search needs
 
+returns-2 : tie.Need-returns-2 Inv-loop μ-loop
+returns-2 c = search needs
+
 loop-less : tie.Need-loop-less Inv-loop μ-loop
 loop-less c = search needs
 
 loop-again : tie.Need-loop-again Inv-loop μ-loop
 loop-again c = search needs
 
-returns-2 : tie.Need-returns-2 Inv-loop μ-loop
-returns-2 c = search needs
+returns-3 : tie.Need-returns-3 Inv-loop μ-loop
+returns-3 c = search needs
 
 pub show-spec : {M : Type 1} → statement M
 show-spec =
@@ -60,6 +64,7 @@ show-spec =
     loop-holds
     add-card
     show-card-requires
+    returns-2
     loop-less
     loop-again
-    returns-2)
+    returns-3)

@@ -1,3 +1,4 @@
+-- `show_card` is safe and ends: each run adds 65,535 ticks at most, and the measure is what is left of the runs.
 use Prim.Native.Nat.{_*_, _-_, _≤_}
 use borrow.Author.Needs.{needs}
 use Rattle.show.proofs.show_card.Statement.{statement}
@@ -24,6 +25,9 @@ slice-aggregate-print-2 c = search needs
 print-requires : tie.Need-print-requires Inv-loop μ-loop
 print-requires c κs = search needs
 
+returns : tie.Need-returns Inv-loop μ-loop
+returns c = search needs
+
 loop-holds : tie.Need-loop-holds Inv-loop μ-loop
 loop-holds c = search needs
 
@@ -42,6 +46,9 @@ slice-aggregate-print-answer c = search needs
 print-answer-requires : tie.Need-print-answer-requires Inv-loop μ-loop
 print-answer-requires c κs = search needs
 
+returns-2 : tie.Need-returns-2 Inv-loop μ-loop
+returns-2 c = search needs
+
 add-j : tie.Need-add-j Inv-loop μ-loop
 add-j c = search needs
 
@@ -51,8 +58,8 @@ loop-less c = search needs
 loop-again : tie.Need-loop-again Inv-loop μ-loop
 loop-again c = search needs
 
-returns : tie.Need-returns Inv-loop μ-loop
-returns c = search needs
+returns-3 : tie.Need-returns-3 Inv-loop μ-loop
+returns-3 c = search needs
 
 pub show-card-spec : {M : Type 1} → statement M
 show-card-spec =
@@ -65,13 +72,15 @@ show-card-spec =
     slice-aggregate-print
     slice-aggregate-print-2
     print-requires
+    returns
     loop-holds
     run-length-requires
     cast-ticks
     add-ticks
     slice-aggregate-print-answer
     print-answer-requires
+    returns-2
     add-j
     loop-less
     loop-again
-    returns)
+    returns-3)
