@@ -1,11 +1,14 @@
 #!/usr/bin/env bash
-# Runs one of the programs: bash program.sh NAME ARGUMENTS.. The first call proves and builds it; later ones only look whether something changed.
+# Runs one of the programs: bash program.sh NAME ARGUMENTS.. The first call proves and builds it and tells how far it is; later ones only look whether
+# something changed.
 set -eu
-[ $# -ge 1 ] || { echo "usage: bash program.sh NAME ARGUMENTS.." >&2; exit 2; }
-here=$(dirname "$0")
-name=$1
+here=$(dirname -- "$0")
+name=${1-}
+if [ ! -f "$here/crates/$name/src/main.rt" ]; then
+    programs=$(cd "$here" && printf '%s\n' crates/*/src/main.rt | cut -d/ -f2 | paste -sd' ')
+    echo "usage: bash program.sh NAME ARGUMENTS.., where NAME is one of: $programs" >&2
+    exit 2
+fi
 shift
-log=$(mktemp)
-trap 'rm -f "$log"' EXIT
-(cd "$here" && rt check "$name") >"$log" 2>&1 || { tail -20 "$log" >&2; exit 1; }
-sh "$here/host/run.sh" "$here/target/bin/$name" "$@"
+bash "$here/prove.sh" check "$name"
+exec sh "$here/host/run.sh" "$here/target/bin/$name" "$@"

@@ -3,6 +3,8 @@
  * words of two tables of texts.
  *
  *   example EXERCISE FIRST SECOND
+ *
+ * Ends with 1 where the exercise is refused, and with 2 where a file can't be read or the output can't be written.
  */
 #include <stdio.h>
 #include <stdlib.h>
@@ -64,17 +66,27 @@ static void print_answer(const uint8_t *answer)
             print_message(FOLDHARBOR_TEXT_CAUSE + bit);
 }
 
+/* Gives the status, or 2 where not all that was printed could be written. */
+static int finish(int status)
+{
+    if (fflush(stdout) == 0 && !ferror(stdout))
+        return status;
+    perror("standard output");
+    return 2;
+}
+
 int main(int count, char **arguments)
 {
     if (count != 4) {
-        fprintf(stderr, "usage: example EXERCISE FIRST SECOND\n");
+        fprintf(stderr, "usage: example EXERCISE FIRST SECOND\n"
+                        "FIRST and SECOND are tables of texts: texts/table.sh makes one\n");
         return 2;
     }
     size_t length = load(arguments[1], exercise, sizeof exercise);
     for (int i = 0; i < 2; i++) {
         lengths[i] = load(arguments[2 + i], tables[i], sizeof tables[i]);
         if (lengths[i] > FOLDHARBOR_MOST_TABLE_BYTES) {
-            fprintf(stderr, "%s: too long for a table of texts\n", arguments[2 + i]);
+            fprintf(stderr, "%s: too long for a table of texts (texts/table.sh makes one)\n", arguments[2 + i]);
             return 2;
         }
     }
@@ -83,11 +95,11 @@ int main(int count, char **arguments)
         uint32_t ticks = foldharbor_run_exercise(exercise, length, card, answers, sizeof answers);
 
         if (ticks == FOLDHARBOR_NO_CARD) /* the cards before this one were all */
-            return 0;
+            return finish(0);
         if (ticks > FOLDHARBOR_REFUSED) {
             printf("refused %u\n", (unsigned)ticks - FOLDHARBOR_REFUSED);
             print_message(FOLDHARBOR_TEXT_REFUSAL + ticks - FOLDHARBOR_REFUSED);
-            return 1;
+            return finish(1);
         }
         printf("card %u, ticks %u\n", (unsigned)card, (unsigned)ticks);
         if (ticks > 0)

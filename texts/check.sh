@@ -8,7 +8,7 @@ miss() {
     echo "$1"
     touch "$room/missed"
 }
-program() { sh host/run.sh "target/bin/$@"; }
+program() { sh host/run.sh "target/bin/$1" "${@:2}"; }
 
 # ---- the files: line for line the same messages, listed in README.md from 0 on, composed, nothing but text
 lines=$(wc -l <texts/slovak.txt)
