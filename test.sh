@@ -27,9 +27,9 @@ same() {
     "$@" | cmp - "$want"
 }
 
-# made_of LINES TABLE: makes the table of the lines
-made_of() {
-    sh host/run.sh target/bin/table <"$1" >"$2" && [ -s "$2" ]
+# with_journal DRIVE: whether the lines and the journal of DRIVE.drive are DRIVE.txt
+with_journal() {
+    same "$1.txt" sh host/run.sh target/bin/drive journal <"$1.drive"
 }
 
 # both_languages COMMAND..: whether what the command prints names NZ4, message 3, in both languages
@@ -85,23 +85,28 @@ for exercise in tests/exercises/*.ex; do
     check "show $exercise" same "${exercise%.ex}.txt" sh host/run.sh target/bin/show <"$exercise"
 done
 for drive in tests/drives/*.drive; do
-    check "drive $drive" same "${drive%.drive}.txt" sh host/run.sh target/bin/drive <"$drive"
+    case $drive in
+    */journal-*) check "drive journal $drive" with_journal "${drive%.drive}" ;;
+    *) check "drive $drive" same "${drive%.drive}.txt" sh host/run.sh target/bin/drive <"$drive" ;;
+    esac
 done
 
-check "rt staticlib host" rt staticlib host
 made=target/host
+check "the archive" sh host/build.sh
 check "cc vectors" sh host/build.sh $made/vectors host/vectors.c
 check "cc compare" sh host/build.sh $made/compare host/compare.c host/generate.c host/model.c
 check "cc header" sh host/build.sh $made/header host/header.c
 check "cc bench" sh host/build.sh $made/bench host/bench.c host/generate.c host/model.c
 check "cc texts" sh host/build.sh $made/texts host/texts.c
-check "cc example" sh host/build.sh $made/example host/example.c
+check "cc long" sh host/build.sh $made/long host/long.c host/model.c
 check "the C call on the exercises" sh host/run.sh $made/vectors tests/exercises
 check "docs/FORMATS.md, its examples and the header's names" bash docs/formats.sh
 check "the C call against the model" sh host/run.sh $made/compare
 check "the text call against the model" sh host/run.sh $made/texts
-for language in slovak english; do
-    check "table texts/$language.txt" made_of texts/$language.txt $made/$language.table
+check "long drives by the model" sh host/run.sh $made/long $made
+for length in 57599 57600 57608; do
+    check "drive journal $made/long-$length.drive" with_journal $made/long-$length
 done
-check "the example host" both_languages sh host/run.sh $made/example tests/exercises/04.ex $made/slovak.table $made/english.table
+check "the example host" both_languages bash host/example.sh tests/exercises/04.ex
+check "scripts and programs at their edges" bash tests/scripts.sh
 close

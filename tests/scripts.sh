@@ -1,0 +1,190 @@
+#!/usr/bin/env bash
+# Whether the scripts and the programs, which are built, do at their edges what they say: words that make no sense, files that can't be read, output that
+# can't be written, an input that ends or fails. What the scripts do while something is proved shows in a made-up tree with a made-up `rt`.
+cd "$(dirname -- "$0")/.." || exit 1
+here=$PWD
+room=$(mktemp -d)
+trap 'rm -rf "$room"' EXIT
+missed=0
+miss() {
+    echo "$1"
+    missed=1
+}
+
+# run COMMAND.., then gives WHAT STATUS OUT ERR: whether it ended with that status and wrote that, and nothing else, to the two outputs
+run() {
+    "$@" >"$room/out" 2>"$room/err"
+    status=$?
+}
+gives() {
+    [ "$status" = "$2" ] || miss "$1: ended with $status and not with $2"
+    [ "$(cat "$room/out")" = "$3" ] || miss "$1: printed $(head -c 300 "$room/out")"
+    [ "$(cat "$room/err")" = "$4" ] || miss "$1: told $(head -c 300 "$room/err")"
+}
+program() { sh host/run.sh "target/bin/$1" "${@:2}"; }
+full() { "$@" >/dev/full; }
+
+# ---- show.sh: where the exercise comes from, and the status
+paper=$(cat crates/show/stdout)
+refused=$(cat tests/exercises/02.txt)
+usage="usage: bash show.sh [FILE], where FILE is an exercise, or - for standard input"
+run bash show.sh
+gives "show.sh" 0 "$paper" ""
+run bash show.sh - <crates/show/stdin
+gives "show.sh -" 0 "$paper" ""
+run bash show.sh <(cat crates/show/stdin)
+gives "show.sh <(..)" 0 "$paper" ""
+run bash show.sh tests/exercises/02.ex
+gives "show.sh on a bad file" 1 "$refused" ""
+run bash show.sh <(cat tests/exercises/02.ex)
+gives "show.sh on a bad pipe" 1 "$refused" ""
+for name in "two words" -dash "--" 'a$b`c' "*"; do
+    cp crates/show/stdin "$room/$name"
+    run env -C "$room" bash "$here/show.sh" "$name"
+    gives "show.sh on a file named $name" 0 "$paper" ""
+done
+run bash show.sh "$room"
+gives "show.sh on a directory" 2 "" "show.sh: $room is a directory: name a file in it"
+run bash show.sh "$room/none"
+gives "show.sh on no file" 2 "" "show.sh: no such file: $room/none ($usage)"
+run bash show.sh a b
+gives "show.sh on two files" 2 "" "show.sh: $usage"
+run bash show.sh - <"$room"
+gives "show.sh - on a directory" 2 "" "show: standard input: Is a directory"
+run full bash show.sh
+[ "$status" = 2 ] && grep -q "No space left on device" "$room/err" || miss "show.sh: does not tell that its output can't be written"
+
+# ---- programs: an input that fails, an output that fails, words
+for name in show drive; do
+    run program $name <"$room"
+    gives "$name on a directory" 0 "" "$name: standard input: Is a directory"
+done
+for name in show drive; do
+    run full program $name <crates/$name/stdin
+    gives "$name" 0 "" "$name: standard output: No space left on device"
+done
+run full program readings
+gives "readings" 0 "" "readings: standard output: No space left on device"
+for words in "" "1 0"; do
+    # shellcheck disable=SC2086
+    run full program messages crates/messages/data/first.table crates/messages/data/second.table $words
+    gives "messages $words" 0 "" "messages: standard output: No space left on device"
+done
+for words in x Journal journals "journal journal" "journal x"; do
+    # shellcheck disable=SC2086
+    run program drive $words <crates/drive/stdin
+    gives "drive $words" 0 "" "usage: drive [journal] <SCRIPT"
+done
+run program drive "" <crates/drive/stdin
+gives "drive with an empty word" 0 "" "usage: drive [journal] <SCRIPT"
+[ "$(program show <tests/exercises/30.ex | head -n 1)" = "card 1" ] || miss "show into a pipe that closes"
+
+# drive takes no byte beyond a call: behind the unknown one, which ends this script, a tick of 14 bytes is left
+left=$({ program drive >/dev/null; wc -c; } <tests/drives/journal-survivors.drive)
+[ "$left" = 14 ] || miss "drive reads on behind the call that it answers: $left bytes are left"
+# and it answers the header and a call while the input stays open; the time is that after which nothing comes any more
+mkfifo "$room/script"
+program drive <"$room/script" >"$room/lines" &
+exec 3>"$room/script"
+head -c 22 crates/drive/stdin >&3
+for count in 1 2; do
+    for _ in $(seq 600); do
+        [ "$(wc -l <"$room/lines")" -lt $count ] || break
+        sleep 0.1
+    done
+    [ "$(wc -l <"$room/lines")" = $count ] || miss "drive: $(wc -l <"$room/lines") lines and not $count while its input is open"
+    printf '\3' >&3
+done
+exec 3>&-
+wait
+
+# ---- program.sh and run.sh
+programs="drive messages readings show table"
+for words in "" none numbers; do
+    # shellcheck disable=SC2086
+    run bash program.sh $words
+    gives "program.sh $words" 2 "" "usage: bash program.sh NAME ARGUMENTS.., where NAME is one of: $programs"
+done
+run sh host/run.sh "$room/none"
+[ "$status" = 2 ] && grep -q "there is no $room/none: " "$room/err" || miss "run.sh does not tell that a program is missing"
+
+# ---- the example host
+tables=(target/texts/slovak.table target/texts/english.table)
+example=target/host/example
+run bash host/example.sh a b
+gives "example.sh on two words" 2 "" "usage: bash host/example.sh [EXERCISE [FIRST SECOND]], where FIRST and SECOND are tables of texts"
+run sh host/run.sh $example tests/exercises/04.ex
+gives "example on one word" 2 "" "$(printf 'usage: example EXERCISE FIRST SECOND\nFIRST and SECOND are tables of texts: texts/table.sh makes one')"
+run sh host/run.sh $example "$room" "${tables[@]}"
+gives "example on a directory" 2 "" "$room: Is a directory"
+run sh host/run.sh $example "$room/none" "${tables[@]}"
+gives "example on no file" 2 "" "$room/none: No such file or directory"
+run full sh host/run.sh $example tests/exercises/04.ex "${tables[@]}"
+gives "example" 2 "" "standard output: No space left on device"
+run sh host/run.sh $example tests/exercises/02.ex "${tables[@]}"
+[ "$status" = 1 ] && [ "$(head -n 1 "$room/out")" = "$refused" ] || miss "example on a bad file"
+
+# ---- while something is proved: a tree with a space in its name, whose `rt` writes down its words and makes what it is asked for
+tree="$room/a tree"
+mkdir -p "$tree/crates/show/src" "$tree/bin" "$tree/host"
+cp prove.sh program.sh show.sh "$tree"
+cp host/*.sh "$tree/host"
+cp crates/show/stdin "$tree/crates/show"
+touch "$tree/crates.txt" "$tree/crates/show/src/main.rt"
+cat >"$tree/bin/rt" <<'RT'
+#!/bin/sh
+[ "$1" != doc ] || exec "$REAL_RT" doc
+echo "$*" >>called
+cat # standard input is the program's: rt must get none of it
+echo "rt: numbers proved (unchanged since it was last proved)"
+echo "rt: file proved (3 s)"
+[ -z "${FAIL-}" ] || { echo "crates/show/src/main.rt:1:1: error: made up"; exit 1; }
+mkdir -p target/bin target/staticlib target/stamp
+cp "$HERE/target/bin/show" target/bin/show
+touch "target/stamp/$2"
+[ "$1" != staticlib ] || touch "target/staticlib/lib$2.a"
+RT
+cat >"$tree/bin/compiler" <<'CC'
+#!/bin/sh
+echo "$*" >compiled
+CC
+chmod +x "$tree"/bin/*
+made_up() { env -C "$tree" PATH="$tree/bin:$PATH" HERE="$here" REAL_RT="$(command -v rt)" "$@"; }
+first="show is proved and built first, which takes up to some minutes"
+FAIL=1 run made_up bash show.sh
+[ "$status" = 2 ] && [ ! -s "$room/out" ] && grep -q "error: made up" "$room/err" && grep -q "^.rt check show. failed: " "$room/err" ||
+    miss "show.sh where the proof fails: $status, $(cat "$room/out" "$room/err")"
+run made_up bash show.sh - <crates/show/stdin
+gives "show.sh, first run" 0 "$paper" "$(printf '%s\nfile proved (3 s)' "$first")"
+run made_up bash show.sh - <crates/show/stdin
+gives "show.sh, a source changed" 0 "$paper" "file proved (3 s)"
+rm "$tree/called"
+
+# the archive is made where it is missing and where a source is newer, and not else
+archive=$(sed -n 's/^crate=\([a-z]*\).*/\1/p' host/build.sh)
+run made_up sh host/build.sh
+[ "$(cat "$tree/called")" = "staticlib $archive" ] || miss "build.sh does not make an archive that is missing"
+run made_up sh host/build.sh
+gives "build.sh with an archive" 0 "" ""
+[ "$(wc -l <"$tree/called")" = 1 ] || miss "build.sh makes an archive that is there"
+touch -t 200001010000 "$tree/target/staticlib/lib$archive.a"
+CC="compiler -first" CFLAGS="-O0 -g" run made_up sh host/build.sh "a folder/a program" "-option" "a source.c"
+[ "$status" = 0 ] && [ "$(wc -l <"$tree/called")" = 2 ] || miss "build.sh does not make an archive that is older than a source"
+compiled=$(cat "$tree/compiled")
+[[ $compiled == *"-first "*"-O2 "*"-O0 -g "*"-option a source.c "*"lib$archive.a -o a folder/a program"* ]] || miss "build.sh calls: $compiled"
+CC=none run made_up sh host/build.sh a b
+gives "build.sh with no compiler" 2 "" "no compiler none: install it, or name yours by CC=.."
+FAIL=1 run made_up sh -c 'rm target/staticlib/*; sh host/build.sh a b'
+[ "$status" = 1 ] && grep -q "error: made up" "$room/err" || miss "build.sh goes on where the proof fails"
+run sh host/build.sh a
+gives "build.sh on one word" 2 "" "usage: sh host/build.sh [OUT SOURCES..]"
+if ! PATH=/usr/bin:/bin command -v rt >/dev/null; then
+    PATH=/usr/bin:/bin run bash prove.sh check show
+    gives "prove.sh with no kit" 2 "" "rt, the command of the Rattle kit, is not on the PATH: put the kit's folder bin there"
+fi
+
+# ---- every script parses
+for script in ./*.sh host/*.sh texts/*.sh tests/*.sh docs/*.sh .ci/run; do
+    bash -n "$script" || miss "$script does not parse"
+done
+exit $missed
