@@ -145,7 +145,7 @@ fn print_journal(journal: &[u8], ticks: u16) {
     let mut i: u16 = 0;
     while i < ticks {
         if !print_record(journal, RECORD_WIDTH * (i as usize)) {
-            os::fail(b"drive: standard output");
+            write_failed();
             return;
         }
         i += 1;

@@ -5,10 +5,10 @@ use Rattle.drive.proofs.print_journal.Statement.{statement}
 use Rattle.drive.proofs.print_journal.Tie as tie
 
 abbrev Inv-loop : tie.InvT-loop
-Inv-loop journal ticks i₀ t4 i = i ≤ ticks
+Inv-loop journal ticks i₀ i = i ≤ ticks
 
 abbrev μ-loop : tie.MeasureT-loop
-μ-loop journal ticks i₀ t4 i = ticks - i
+μ-loop journal ticks i₀ i = ticks - i
 
 loop-holds : tie.Need-loop-holds Inv-loop μ-loop
 loop-holds c = search needs
@@ -22,11 +22,8 @@ mul-print-record c = search needs
 print-record-requires : tie.Need-print-record-requires Inv-loop μ-loop
 print-record-requires c κs = search needs
 
-slice-aggregate-fail : tie.Need-slice-aggregate-fail Inv-loop μ-loop
-slice-aggregate-fail c = search needs
-
-fail-requires : tie.Need-fail-requires Inv-loop μ-loop
-fail-requires c κs = search needs
+write-failed-requires : tie.Need-write-failed-requires Inv-loop μ-loop
+write-failed-requires c κs = search needs
 
 returns : tie.Need-returns Inv-loop μ-loop
 returns c = search needs
@@ -53,8 +50,7 @@ print-journal-spec =
     cast-print-record
     mul-print-record
     print-record-requires
-    slice-aggregate-fail
-    fail-requires
+    write-failed-requires
     returns
     add-i
     loop-less
