@@ -19,11 +19,11 @@ use Rattle.signal.specs.Steps.{steps2To6}
 use Rattle.cyclic.specs.Cyclic.{asksIncreased, asksOrdinary, cyclicKind, cycleLength, cyclicLapses, cyclicTicks, cyclicPrompts}
 use Rattle.onetime.specs.OneTime.{lead, exceeds, promptLapses, promptStays, dueAhead, dueAtStart, asksAhead, asksAtStart, promptTicksNext, promptKindNext, promptedNext}
 use Rattle.causes.specs.Held.{heldIn, maskOf, ifHeld, listed, firstOr, lowest, howMany}
-use Rattle.motion.specs.Direction.{agrees, wrongwayNow, wrongwayTriggers}
+use Rattle.motion.specs.Direction.{wrongwayNow, wrongwayTriggers}
 use Rattle.motion.specs.Standing.{counted, standingNow, standingTriggers, standingSounds}
-use Rattle.causes.specs.Keeping.{released, kept, step10Wrongway}
+use Rattle.causes.specs.Keeping.{released, step10Held, step10Wrongway}
 use Rattle.state.specs.Mode.{modeNow, step1Mode}
-use Rattle.rules.specs.Permitted.{ceiling, permitted}
+use Rattle.rules.specs.Permitted.{ceiling, step6Permitted}
 use Rattle.rules.specs.Answer.{marks}
 use Rattle.rules.specs.Tick.{signalIn, permittedIn, kindIn, cyclicIn, oneTimeIn, directionIn, standingIn, triggersIn, releasesIn, heldNext, wrongwayNext, stateNext, answerNow, steps2To10, advance}
 use Rattle.rules.specs.After.{after}
@@ -31,6 +31,12 @@ use Rattle.examples.specs.Drive.{ticks, drive, taken, atEnd}
 use Rattle.examples.specs.Rows.{rows}
 
 -- with `[]` and `_∷_` in scope, a refusal of a short table shows the numbers that differ
-pub rows-hold : map (λ row. row .what) rows ≡ map (λ row. row .is) rows
-unfolding rows ticks drive taken atEnd ofBits quantity speedAt speedOf speedValue cardInRange recordInRange pressed keysOf target curveValue signalSpeed gapMan manByCode curveBegins curveByCode interruptedNext gapNext raiseByCode step3Plus codesNext step4Man ageNow curveHolds manStarts curveAged manStarted steps2To6 asksIncreased asksOrdinary cyclicKind cycleLength cyclicLapses cyclicTicks cyclicPrompts lead exceeds promptLapses promptStays dueAhead dueAtStart asksAhead asksAtStart promptTicksNext promptKindNext promptedNext heldIn maskOf ifHeld listed firstOr lowest howMany agrees wrongwayNow wrongwayTriggers counted standingNow standingTriggers standingSounds released kept step10Wrongway modeNow step1Mode ceiling permitted signalIn permittedIn kindIn cyclicIn oneTimeIn directionIn standingIn triggersIn releasesIn heldNext wrongwayNext marks stateNext answerNow steps2To10 advance after
+unfoldable pub rows-hold : map (λ row. row .what) rows ≡ map (λ row. row .is) rows
+unfolding rows ticks drive taken atEnd ofBits quantity speedAt speedOf speedValue cardInRange recordInRange pressed keysOf target curveValue
+    signalSpeed gapMan manByCode curveBegins curveByCode interruptedNext gapNext raiseByCode step3Plus codesNext step4Man ageNow curveHolds manStarts
+    curveAged manStarted steps2To6 asksIncreased asksOrdinary cyclicKind cycleLength cyclicLapses cyclicTicks cyclicPrompts lead exceeds promptLapses
+    promptStays dueAhead dueAtStart asksAhead asksAtStart promptTicksNext promptKindNext promptedNext heldIn maskOf ifHeld listed firstOr lowest
+    howMany wrongwayNow wrongwayTriggers counted standingNow standingTriggers standingSounds released step10Held step10Wrongway modeNow
+    step1Mode ceiling step6Permitted signalIn permittedIn kindIn cyclicIn oneTimeIn directionIn standingIn triggersIn releasesIn heldNext wrongwayNext
+    marks stateNext answerNow steps2To10 advance after
 rows-hold = refl

@@ -1,1 +1,1 @@
-// No code: the starred numbers of the paper are the rows of one table in specs/, proved in proofs/.
+// No code: the paper's numbers as tables of rows in specs/, proved in proofs/.
