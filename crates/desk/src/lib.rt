@@ -1,6 +1,8 @@
 // The desk: opened with a card, then ticks, steps back and restarts. It goes in and comes back by value; the journal is lent.
 ghost use mathlib.Core.Path.{_≡_};
+ghost use Prim.Native.Nat.{_+_, _≤_};
 ghost use lib.ListN.{length};
+ghost use Rattle.record.specs.Times.{mostTicks};
 ghost use Rattle.desk.specs.Desk.{deskInRange, freshDesk, noDesk};
 ghost use Rattle.desk.specs.Calls.{refused, begun, accepted, openOutcome, deskRefusal, tickRefusalOf, tickOutcome, tickJournal, backRefusal, backOutcome, restartOutcome};
 use card::Card;
@@ -90,16 +92,37 @@ fn begun(card: Card) -> Outcome
     }
 }
 
-fn accepted(card: Card, n: u16, tick: AfterTick) -> Outcome
-    ensures { λ x. ⌜ x ≡ accepted card n tick ⌝ }
+// The desk a tick later.
+fn ticked(desk: Desk, after: AfterTick) -> Outcome
+    requires { ⌜ desk .n ≤ mostTicks ⌝ }
+    ensures { λ x. ⌜ x ≡ accepted (desk .card) (desk .n + 1) after ⌝ }
 {
-    let state = tick.state;
-    let answer = tick.answer;
+    let card = desk.card;
+    let next = after.state;
+    let shown = after.answer;
+    Outcome {
+        desk: Desk {
+            card: card,
+            n: desk.n + 1,
+            state: next,
+        },
+        answer: shown,
+        refusal: 0,
+    }
+}
+
+// The desk as its first n records rebuild it.
+fn gone_back(desk: Desk, n: u16, after: AfterTick) -> Outcome
+    ensures { λ x. ⌜ x ≡ accepted (desk .card) n after ⌝ }
+{
+    let card = desk.card;
+    let rebuilt = after.state;
+    let answer = after.answer;
     Outcome {
         desk: Desk {
             card: card,
             n: n,
-            state: state,
+            state: rebuilt,
         },
         answer: answer,
         refusal: 0,
@@ -174,7 +197,7 @@ impl Desk {
         let n = self.n as usize;
         let reading = taken.record;
         record::put_record(journal, RECORD_WIDTH * n, reading);
-        accepted(card, self.n + 1, rules::advance(card, state, reading))
+        ticked(self, rules::advance(card, state, reading))
     }
 
     pub fn step_back(self, k: u32, journal: &[u8]) -> Outcome
@@ -186,7 +209,7 @@ impl Desk {
         }
         let card = self.card;
         let m = self.n - (k as u16);
-        accepted(card, m, journal::rebuilt(card, journal, m as usize))
+        gone_back(self, m, journal::rebuilt(card, journal, m as usize))
     }
 
     pub fn restart(self) -> Outcome

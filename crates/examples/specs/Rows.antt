@@ -59,8 +59,8 @@ start x = x .state .signal .curve .start
 abbrev age : AfterTick → ℕ
 age x = x .state .signal .curve .age
 
-abbrev given : AfterTick → ℕ
-given x = x .state .signal .curve .prompted
+abbrev prompted : AfterTick → ℕ
+prompted x = x .state .signal .curve .prompted
 
 abbrev manSpeed : AfterTick → ℕ
 manSpeed x = x .state .signal .man
@@ -143,13 +143,13 @@ rows =
     ∷ ends (clearTo stop 888) ((age, 888) ∷ (permitted, 2) ∷ (marks, 2) ∷ [])
     ∷ ends (clearTo stop 889) ((start, 0) ∷ (permitted, 0) ∷ (marks, 0) ∷ [])
     -- "v 1200, Clear to Stop: start prompt, then D first true at age 140": D(c + R) gives the prompt of kind 1 and sets w
-    ∷ ends (toStop 1200 0) ((age, 0) ∷ (marks, 10) ∷ (given, 0) ∷ [])
-    ∷ ends (confirmed 1200 139) ((age, 139) ∷ (marks, 2) ∷ (given, 0) ∷ [])
-    ∷ ends (confirmed 1200 140) ((age, 140) ∷ (marks, 26) ∷ (given, 1) ∷ [])
+    ∷ ends (toStop 1200 0) ((age, 0) ∷ (marks, 10) ∷ (prompted, 0) ∷ [])
+    ∷ ends (confirmed 1200 139) ((age, 139) ∷ (marks, 2) ∷ (prompted, 0) ∷ [])
+    ∷ ends (confirmed 1200 140) ((age, 140) ∷ (marks, 26) ∷ (prompted, 1) ∷ [])
     -- "v 1400: age 29, no start prompt"
-    ∷ ends (toStop 1400 0) ((age, 0) ∷ (marks, 2) ∷ (given, 0) ∷ [])
-    ∷ ends (toStop 1400 28) ((age, 28) ∷ (marks, 2) ∷ (given, 0) ∷ [])
-    ∷ ends (toStop 1400 29) ((age, 29) ∷ (marks, 26) ∷ (given, 1) ∷ [])
+    ∷ ends (toStop 1400 0) ((age, 0) ∷ (marks, 2) ∷ (prompted, 0) ∷ [])
+    ∷ ends (toStop 1400 28) ((age, 28) ∷ (marks, 2) ∷ (prompted, 0) ∷ [])
+    ∷ ends (toStop 1400 29) ((age, 29) ∷ (marks, 26) ∷ (prompted, 1) ∷ [])
     -- "MAN entered at 1350, then 1300, 1320, 1100, 1250: M is 1350, 1300, 1300, 1200, 1200 (Stop)"
     ∷ ends (underMan 1350 []) ((manSpeed, 1350) ∷ [])
     ∷ ends (underMan 1350 (1300 ∷ [])) ((manSpeed, 1300) ∷ [])

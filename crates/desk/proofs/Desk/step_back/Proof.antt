@@ -36,12 +36,12 @@ rebuilt-requires c κs =
     let long = t .desk .long in
     (desk-ranges _ (t .desk .desk-good) .card, (omega arith, t .good))
 
-accepted-requires : tie.Need-accepted-requires
-accepted-requires c κs = search needs
+gone-back-requires : tie.Need-gone-back-requires
+gone-back-requires c κs = search needs
 
 returns-2 : tie.Need-returns-2
 unfolding backOutcome
-returns-2 c = simp (← c .accepted .ensures, ← c .before .rebuilt .ensures, eq-eqb _ _ (c .before .before .before .before .if1 .left), ← c .before .before .before .before .before .back-refusal .ensures)
+returns-2 c = simp (← c .gone-back .ensures, ← c .before .rebuilt .ensures, eq-eqb _ _ (c .before .before .before .before .if1 .left), ← c .before .before .before .before .before .back-refusal .ensures)
 
 pub step-back-spec : {M : Type 1} → statement M
 step-back-spec =
@@ -54,5 +54,5 @@ step-back-spec =
     sub-m
     cast-rebuilt
     rebuilt-requires
-    accepted-requires
+    gone-back-requires
     returns-2)

@@ -1,3 +1,5 @@
+-- `Desk::tick` meets its contract. The number that the code finds is the definition's (`number`); refused, the laws of a refused tick close it
+-- (`tick-no`), accepted, those of an accepted one (`tick-yes`), with the record as the sample gives it and the ranges that no refusal leaves out.
 use Prim.Native.Nat.{ℕ, _+_, _*_}
 use mathlib.Core.Path.{_≡_, sym, ap, _∙_}
 use native.Mathlib.Omega.{arith}
@@ -6,13 +8,13 @@ use denote.Ref.{now}
 use lib.ListN.{length}
 use Rattle.record.specs.declared.Record.{Record}
 use Rattle.record.specs.Record.{recordWidth, recordInRange, putRecord}
+use Rattle.record.specs.Sample.{sampleRefusal}
 use Rattle.record.proofs.Ranges.{record-ranges}
 use Rattle.record.proofs.Refusal.{sample-in-range}
 use Rattle.rules.specs.declared.AfterTick.{AfterTick}
 use Rattle.rules.specs.Tick.{advance}
 use Rattle.desk.specs.Calls.{refused, accepted, tickRefusalOf, tickRefusal}
-use Rattle.journal.proofs.Room.{room}
-use Rattle.desk.proofs.Calls.{tick-taken, desk-ranges, tick-yes, tick-no}
+use Rattle.desk.proofs.Calls.{TickTaken, tick-taken, desk-ranges, tick-yes, tick-no}
 use Rattle.desk.proofs.Desk.tick.Statement.{statement}
 use Rattle.desk.proofs.Desk.tick.Tie as tie
 
@@ -23,20 +25,26 @@ tick-refusal-of-requires : tie.Need-tick-refusal-of-requires
 tick-refusal-of-requires c κs = search needs
 
 -- the number that the code found is the definition's
-number : (c : tie.After-tick-refusal-of) → c .tick-refusal-of .result ≡ tickRefusal (c .before .before .before .args .self) (c .before .before .before .args .sample) (now (c .before .before .before .args .journal))
+number : (c : tie.After-tick-refusal-of) → let a = c .before .before .before .args in
+    c .tick-refusal-of .result ≡ tickRefusal (a .self) (a .sample) (now (a .journal))
 number c =
     let a = c .before .before .before .args in
     c .tick-refusal-of .ensures ∙ ap (λ (q : ℕ). tickRefusalOf (a .self) q (length (now (a .journal)))) (c .before .take-sample .ensures .0)
+
+-- where it is 0 no reason to refuse holds
+taken : (c : tie.After-tick-refusal-of) → c .tick-refusal-of .result ≡ 0 → let a = c .before .before .before .args in
+    TickTaken (a .self) (sampleRefusal (a .sample)) (length (now (a .journal)))
+taken c none = tick-taken _ _ _ (sym (number c) ∙ none)
 
 refused-requires : tie.Need-refused-requires
 refused-requires c κs = search needs
 
 returns : tie.Need-returns
 returns c =
-    let a = c .before .before .before .before .before .args in
-    let e = number (c .before .before) in
-    let no = tick-no (a .self) (a .sample) (now (a .journal)) (λ z. c .before .if1 .taken (e ∙ z)) in
-    (c .refused .ensures ∙ ap (refused (a .self)) e ∙ sym (no .0), sym (no .1))
+    let judged = c .before .before in
+    let a = judged .before .before .before .args in
+    let no = tick-no (a .self) (a .sample) (now (a .journal)) (λ z. c .before .if1 .taken (number judged ∙ z)) in
+    (c .refused .ensures ∙ ap (refused (a .self)) (number judged) ∙ sym (no .0), sym (no .1))
 
 cast-n : tie.Need-cast-n
 cast-n c = search needs
@@ -47,34 +55,36 @@ mul-put-record c = search needs
 put-record-requires : tie.Need-put-record-requires
 put-record-requires c κs = search needs
 
-add-accepted : tie.Need-add-accepted
-add-accepted c =
-    let t = tick-taken _ _ _ (sym (number (c .before .before .before .before .before .before .before .before .before .before)) ∙ c .before .before .before .before .before .before .before .before .before .if1 .left) in
-    let r = room _ _ (t .below) in
-    omega arith
-
 advance-requires : tie.Need-advance-requires
 advance-requires c κs =
-    let t = tick-taken _ _ _ (sym (number (c .before .before .before .before .before .before .before .before .before .before)) ∙ c .before .before .before .before .before .before .before .before .before .if1 .left) in
-    let d = desk-ranges _ (t .desk .desk-good) in
-    let e = c .before .before .before .before .before .before .before .before .before .before .before .take-sample .ensures .1 in
-    (d .card, d .state, record-ranges _ (ap recordInRange e ∙ sample-in-range _ (t .fine)))
+    let reading = c .before .before .before .before in
+    let at-if1 = reading .before .before .before .before in
+    let t = taken (at-if1 .before) (at-if1 .if1 .left) in
+    let good = desk-ranges _ (t .desk .desk-good) in
+    (good .card, good .state, record-ranges _ (ap recordInRange (at-if1 .before .before .take-sample .ensures .1) ∙ sample-in-range _ (t .fine)))
 
-accepted-requires : tie.Need-accepted-requires
-accepted-requires c κs = search needs
+ticked-requires : tie.Need-ticked-requires
+ticked-requires c κs =
+    let reading = c .before .before .before .before .before in
+    let at-if1 = reading .before .before .before .before in
+    let t = taken (at-if1 .before) (at-if1 .if1 .left) in
+    desk-ranges _ (t .desk .desk-good) .n-most
 
 same-length : tie.Need-same-length
 same-length c = search needs
 
 returns-2 : tie.Need-returns-2
 returns-2 c =
-    let a = c .before .before .before .before .before .before .before .before .before .before .before .before .before .before .before .args in
-    let yes = tick-yes (a .self) (a .sample) (now (a .journal)) (sym (number (c .before .before .before .before .before .before .before .before .before .before .before .before)) ∙ c .before .before .before .before .before .before .before .before .before .before .before .if1 .left) in
-    let e = c .before .before .before .before .before .before .before .before .before .before .before .before .before .take-sample .ensures .1 in (
-      c .accepted .ensures
-          ∙ ap (λ (x : AfterTick). accepted (a .self .card) (a .self .n + 1) x) (c .before .advance .ensures .0 ∙ ap (λ (r : Record). advance (a .self .card) (a .self .state) r) e)
-          ∙ sym (yes .0),
-      c .before .before .before .before .before .put-record .ensures ∙ ap (putRecord (now (a .journal)) (recordWidth * a .self .n)) e ∙ sym (yes .1),
+    let put = c .before .before .before .before in
+    let reading = put .before .before in
+    let at-if1 = reading .before .before .before .before in
+    let judged = at-if1 .before in
+    let a = judged .before .before .before .args in
+    let yes = tick-yes (a .self) (a .sample) (now (a .journal)) (sym (number judged) ∙ at-if1 .if1 .left) in
+    let record-is = judged .before .take-sample .ensures .1 in
+    let after-is = c .before .advance .ensures .0 ∙ ap (λ (r : Record). advance (a .self .card) (a .self .state) r) record-is in (
+      c .ticked .ensures ∙ ap (λ (x : AfterTick). accepted (a .self .card) (a .self .n + 1) x) after-is ∙ sym (yes .0),
+      put .put-record .ensures ∙ ap (putRecord (now (a .journal)) (recordWidth * a .self .n)) record-is ∙ sym (yes .1),
     )
 
 pub tick-spec : {M : Type 1} → statement M
@@ -88,8 +98,7 @@ tick-spec =
     cast-n
     mul-put-record
     put-record-requires
-    add-accepted
     advance-requires
-    accepted-requires
+    ticked-requires
     same-length
     returns-2)
