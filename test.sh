@@ -79,6 +79,7 @@ fi
 [ "$status" = 0 ] || [ "$failed" != 0 ] || failed=1
 check "rt fmt --check" rt fmt --check
 check "docs name what is there" bash docs/check.sh
+check "wrong builds that their own crates prove" bash tests/contracts.sh
 check "texts in both languages, table and messages" bash texts/check.sh
 
 for exercise in tests/exercises/*.ex; do

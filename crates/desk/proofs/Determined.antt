@@ -1,5 +1,5 @@
--- Each call's contract determines its result and every lent byte: two outcomes that satisfy it are equal.
--- `Post` is the contract as the check reads it off the source, so a contract that says less breaks these lines.
+-- Each call's contract asks nothing of its caller and determines its result and every lent byte: two outcomes that satisfy it are equal.
+-- `Asked` and `Post` are the contract as the check reads it off the source: a `requires`, or an `ensures` that says less, breaks these lines.
 use mathlib.Core.Path.{_≡_}
 use denote.Ref.{now}
 use contract.Lifetimes.{Lfts}
@@ -9,15 +9,28 @@ use Rattle.desk.proofs.Desk.tick.Reads as ticking
 use Rattle.desk.proofs.Desk.step_back.Reads as backing
 use Rattle.desk.proofs.Desk.restart.Reads as restarting
 
+pub open-asks-nothing : (κs : Lfts 0) (a : _) → opening.Asked κs a
+open-asks-nothing κs a = tt
+
 pub open-determined : (κs : Lfts 0) (a : _) (x y : _) (s t : _) → opening.Post κs a x s → opening.Post κs a y t → x ≡ y
 open-determined κs a x y s t p q = alike p q
 
+pub tick-asks-nothing : (κs : Lfts 1) (a : _) → ticking.Asked κs a
+tick-asks-nothing κs a = tt
+
 -- `s .1 .1 .0` is the journal, the third parameter, at exit
-pub tick-determined : (κs : Lfts 1) (a : _) (x y : _) (s t : _) → ticking.Post κs a x s → ticking.Post κs a y t → (x ≡ y) × (now (s .1 .1 .0) ≡ now (t .1 .1 .0))
+pub tick-determined : (κs : Lfts 1) (a : _) (x y : _) (s t : _) → ticking.Post κs a x s → ticking.Post κs a y t
+    → (x ≡ y) × (now (s .1 .1 .0) ≡ now (t .1 .1 .0))
 tick-determined κs a x y s t p q = (alike (p .0) (q .0), alike (p .1) (q .1))
+
+pub step-back-asks-nothing : (κs : Lfts 1) (a : _) → backing.Asked κs a
+step-back-asks-nothing κs a = tt
 
 pub step-back-determined : (κs : Lfts 1) (a : _) (x y : _) (s t : _) → backing.Post κs a x s → backing.Post κs a y t → x ≡ y
 step-back-determined κs a x y s t p q = alike p q
+
+pub restart-asks-nothing : (κs : Lfts 0) (a : _) → restarting.Asked κs a
+restart-asks-nothing κs a = tt
 
 pub restart-determined : (κs : Lfts 0) (a : _) (x y : _) (s t : _) → restarting.Post κs a x s → restarting.Post κs a y t → x ≡ y
 restart-determined κs a x y s t p q = alike p q

@@ -1,11 +1,15 @@
 -- The contract of `run` determines its result and every lent byte: two outcomes that satisfy it are equal.
--- `Post` is the contract as the check reads it off the source, so a contract that says less breaks these lines.
+-- `Asked` and `Post` are the contract as the check reads it off the source: a `requires`, or an `ensures` that says less, breaks these lines.
 use mathlib.Core.Path.{_≡_}
 use denote.Ref.{now}
 use contract.Lifetimes.{Lfts}
 use Rattle.numbers.proofs.Alike.{alike}
 use Rattle.exercise.proofs.run.Reads as running
 
+pub run-asks-nothing : (κs : Lfts 2) (a : _) → running.Asked κs a
+run-asks-nothing κs a = tt
+
 -- `s .1 .1 .0` is the buffer, the third parameter, at exit
-pub run-determined : (κs : Lfts 2) (a : _) (x y : _) (s t : _) → running.Post κs a x s → running.Post κs a y t → (x ≡ y) × (now (s .1 .1 .0) ≡ now (t .1 .1 .0))
+pub run-determined : (κs : Lfts 2) (a : _) (x y : _) (s t : _) → running.Post κs a x s → running.Post κs a y t
+    → (x ≡ y) × (now (s .1 .1 .0) ≡ now (t .1 .1 .0))
 run-determined κs a x y s t p q = (alike (p .0) (q .0), alike (p .1) (q .1))

@@ -1,5 +1,6 @@
 -- The host calls' contracts determine what they return and every byte of the buffer: two outcomes that satisfy one are equal. And what a text's place is.
--- `Post` is the contract as the check reads it off the source; `s .1 .1 .0` is the buffer, the third parameter, at exit.
+-- They ask nothing of their caller. `Asked` and `Post` are the contract as the check reads it off the source;
+-- `s .1 .1 .0` is the buffer, the third parameter, at exit.
 use mathlib.Core.Path.{_≡_}
 use denote.Ref.{now}
 use contract.Lifetimes.{Lfts}
@@ -9,9 +10,15 @@ use Rattle.texts.proofs.Answers.{Answer, answer}
 use Rattle.host.proofs.foldharbor_run_exercise.Reads as calling
 use Rattle.host.proofs.foldharbor_text.Reads as telling
 
+pub call-asks-nothing : (κs : Lfts 2) (a : _) → calling.Asked κs a
+call-asks-nothing κs a = tt
+
 pub call-determined : (κs : Lfts 2) (a : _) (x y : _) (s t : _) → calling.Post κs a x s → calling.Post κs a y t
     → (x ≡ y) × (now (s .1 .1 .0) ≡ now (t .1 .1 .0))
 call-determined κs a x y s t p q = (alike (p .0) (q .0), alike (p .1) (q .1))
+
+pub text-asks-nothing : (κs : Lfts 1) (a : _) → telling.Asked κs a
+text-asks-nothing κs a = tt
 
 pub text-determined : (κs : Lfts 1) (a : _) (x y : _) (s t : _) → telling.Post κs a x s → telling.Post κs a y t → x ≡ y
 text-determined κs a x y s t p q = alike p q

@@ -1,11 +1,15 @@
 -- The contract of `line_of` determines its result and every lent byte: two results that satisfy it are equal.
--- `Post` is the contract as the check reads it off the source, so a contract that says less breaks these lines.
+-- `Asked` and `Post` are the contract as the check reads it off the source: a `requires`, or an `ensures` that says less, breaks these lines.
 use mathlib.Core.Path.{_≡_}
 use denote.Ref.{now}
 use contract.Lifetimes.{Lfts}
 use Rattle.numbers.proofs.Alike.{alike}
 use Rattle.line.proofs.line_of.Reads as lining
 
+pub line-asks-nothing : (κs : Lfts 1) (a : _) → lining.Asked κs a
+line-asks-nothing κs a = tt
+
 -- `s .1 .0` is the line's room, the second parameter, at exit
-pub line-determined : (κs : Lfts 1) (a : _) (x y : _) (s t : _) → lining.Post κs a x s → lining.Post κs a y t → (x ≡ y) × (now (s .1 .0) ≡ now (t .1 .0))
+pub line-determined : (κs : Lfts 1) (a : _) (x y : _) (s t : _) → lining.Post κs a x s → lining.Post κs a y t
+    → (x ≡ y) × (now (s .1 .0) ≡ now (t .1 .0))
 line-determined κs a x y s t p q = (alike (p .0 .0) (q .0 .0), alike (p .1) (q .1))

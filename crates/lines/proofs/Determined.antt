@@ -1,10 +1,14 @@
 -- The contract of `make` determines what it returns and every byte of the buffer: two outcomes that satisfy it are equal.
--- `Post` is the contract as the check reads it off the source; `s .1 .0` is the buffer, the second parameter, at exit.
+-- It asks nothing of its caller. `Asked` and `Post` are the contract as the check reads it off the source;
+-- `s .1 .0` is the buffer, the second parameter, at exit.
 use mathlib.Core.Path.{_≡_}
 use denote.Ref.{now}
 use contract.Lifetimes.{Lfts}
 use Rattle.numbers.proofs.Alike.{alike}
 use Rattle.lines.proofs.make.Reads as making
+
+pub make-asks-nothing : (κs : Lfts 2) (a : _) → making.Asked κs a
+make-asks-nothing κs a = tt
 
 pub make-determined : (κs : Lfts 2) (a : _) (x y : _) (s t : _) → making.Post κs a x s → making.Post κs a y t
     → (x ≡ y) × (now (s .1 .0) ≡ now (t .1 .0))

@@ -1,5 +1,6 @@
 -- The contracts of `text_place` and `text` determine the answer: two that satisfy one are equal, of a part both its address and its bytes.
--- `Post` is the contract as the check reads it off the source; `s .1 .1 .1 .1 .0` is the refusal, the fifth parameter, at exit.
+-- They ask nothing of their caller. `Asked` and `Post` are the contract as the check reads it off the source;
+-- `s .1 .1 .1 .1 .0` is the refusal, the fifth parameter, at exit.
 use mathlib.Core.Path.{_≡_}
 use denote.Ref.{now, ptr}
 use contract.Lifetimes.{Lfts}
@@ -8,8 +9,14 @@ use Rattle.texts.specs.Text.{chosen}
 use Rattle.texts.proofs.text_place.Reads as placing
 use Rattle.texts.proofs.text.Reads as telling
 
+pub place-asks-nothing : (κs : Lfts 1) (a : _) → placing.Asked κs a
+place-asks-nothing κs a = tt
+
 pub place-determined : (κs : Lfts 1) (a : _) (x y : _) (s t : _) → placing.Post κs a x s → placing.Post κs a y t → x ≡ y
 place-determined κs a x y s t p q = alike p q
+
+pub text-asks-nothing : (κs : Lfts 2) (a : _) → telling.Asked κs a
+text-asks-nothing κs a = tt
 
 pub text-determined : (κs : Lfts 2) (a : _) (x y : _) (s t : _) → telling.Post κs a x s → telling.Post κs a y t
     → (now x ≡ now y) × (ptr x ≡ ptr y) × (now (s .1 .1 .1 .1 .0) ≡ now (t .1 .1 .1 .1 .0))

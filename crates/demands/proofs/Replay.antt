@@ -1,5 +1,5 @@
--- Demand 3, the theorem `demand3` at the end. What every call keeps: the desk is the one that the journal's first records rebuild,
--- and those are the survivors' records. Of a tick it uses only that it keeps the ranges; it never looks into it.
+-- Demand 3 by the definitions. What every call keeps: the desk is the one that the journal's first records rebuild, and those are the
+-- survivors' records. Of a tick it uses only that it keeps the ranges; it never looks into it. Assumes nothing.
 use Prim.Native.Nat.{ℕ, zero, suc, _+_, _-_, _*_, _≤_, _<_}
 use native.Mathlib.Omega.{arith}
 use native.Mathlib.Decide.{decLe, ℕ-discrete}
@@ -28,18 +28,40 @@ use Rattle.desk.specs.declared.Desk.{Desk}
 use Rattle.desk.specs.declared.Outcome.{Outcome}
 use Rattle.journal.specs.Journal.{capacity, records}
 use Rattle.desk.specs.Desk.{deskInRange, freshDesk}
-use Rattle.desk.specs.Calls.{refused, accepted, openOutcome, tickRefusal, tickOutcome, backRefusal, backOutcome, restartOutcome}
+use Rattle.desk.specs.Calls.{refused, accepted, openOutcome, tickRefusal, tickOutcome, tickJournal, backRefusal, backOutcome, restartOutcome}
 use Rattle.numbers.proofs.All.{each-all}
 use Rattle.journal.proofs.Room.{room}
 use Rattle.desk.proofs.Calls as Calls
-use Rattle.replay.specs.Demand3.{Call, Tick, Back, Restart, Drive, outcome, journalAfter, survivors, call, calls, outcomes, opened, Demand3, LastAnswer, NoneLeft}
+use Rattle.demands.specs.Demand3.{Call, Tick, Back, Restart, Drive, survivors, next, opened}
+
+-- ---- what the definitions give
+unfoldable pub outcome : Drive → Call → Outcome
+outcome s (Tick x) = tickOutcome (s .desk) x (s .journal)
+outcome s (Back k) = backOutcome (s .desk) k (s .journal)
+outcome s Restart = restartOutcome (s .desk)
+
+unfoldable pub journalAfter : Drive → Call → List ℕ
+journalAfter s (Tick x) = tickJournal (s .desk) x (s .journal)
+journalAfter s (Back k) = s .journal
+journalAfter s Restart = s .journal
+
+unfoldable pub call : Drive → Call → Drive
+call s c = next s c (outcome s c) (journalAfter s c)
+
+unfoldable pub calls : Drive → List Call → Drive
+calls s [] = s
+calls s (c ∷ cs) = calls (call s c) cs
+
+unfoldable pub outcomes : Drive → List Call → List Outcome
+outcomes s [] = []
+outcomes s (c ∷ cs) = outcome s c ∷ outcomes (call s c) cs
 
 -- ---- the survivors and their records
 abbrev survivor : List Sample → ℕ → Record
 survivor kept i = getD (map sampleRecord kept) i noRecord
 
 -- every sample was accepted
-abbrev Fine : List Sample → Type 0
+abbrev pub Fine : List Sample → Type 0
 Fine [] = Unit {0}
 Fine (x ∷ xs) = (sampleRefusal x ≡ 0) × Fine xs
 
@@ -47,7 +69,7 @@ fine-append : (xs : List Sample) (x : Sample) → Fine xs → sampleRefusal x �
 fine-append [] x f e = (e, tt)
 fine-append (y ∷ xs) x f e = (f .0, fine-append xs x (f .1) e)
 
-fine-take : (m : ℕ) (xs : List Sample) → Fine xs → Fine (take m xs)
+pub fine-take : (m : ℕ) (xs : List Sample) → Fine xs → Fine (take m xs)
 fine-take zero xs f = tt
 fine-take (suc m) [] f = tt
 fine-take (suc m) (x ∷ xs) f = (f .0, fine-take m xs (f .1))
@@ -72,10 +94,11 @@ survivor-take (suc m) [] i h = refl
 survivor-take (suc m) (x ∷ xs) zero h = refl
 survivor-take (suc m) (x ∷ xs) (suc i) h = survivor-take m xs i (omega arith)
 
-length-snoc : (xs : List Sample) (x : Sample) → length (xs ++ (x ∷ [])) ≡ length xs + 1
+pub length-snoc : (xs : List Sample) (x : Sample) → length (xs ++ (x ∷ [])) ≡ length xs + 1
 length-snoc xs x = length-append xs (x ∷ [])
 
-held-more : (xs : List Sample) (x : Sample) (H : ℕ → Record) → ((i : ℕ) → i < length xs → H i ≡ survivor xs i) → H (length xs) ≡ sampleRecord x
+held-more : (xs : List Sample) (x : Sample) (H : ℕ → Record) → ((i : ℕ) → i < length xs → H i ≡ survivor xs i)
+    → H (length xs) ≡ sampleRecord x
     → (i : ℕ) → i < length (xs ++ (x ∷ [])) → H i ≡ survivor (xs ++ (x ∷ [])) i
 held-more xs x H old new i h = go (decLe (suc i) (length xs))
   where
@@ -99,18 +122,18 @@ module _ (J : List ℕ) (n : ℕ) (r : Record) where
 abbrev desk-at : Card → (ℕ → Record) → ℕ → Desk
 desk-at card H m = record { card = card; n = m; state = after card H m .state }
 
-record Kept (card : Card) (L : ℕ) (s : Drive) : Type 0 where
-  is : s .desk ≡ desk-at card (records (s .journal)) (length (s .kept))
-  held : (i : ℕ) → i < length (s .kept) → records (s .journal) i ≡ survivor (s .kept) i
-  fine : Fine (s .kept)
-  long : length (s .journal) ≡ L
-  fits : length (s .kept) ≤ capacity L
+pub record Kept (card : Card) (L : ℕ) (s : Drive) : Type 0 where
+  pub is : s .desk ≡ desk-at card (records (s .journal)) (length (s .kept))
+  pub held : (i : ℕ) → i < length (s .kept) → records (s .journal) i ≡ survivor (s .kept) i
+  pub fine : Fine (s .kept)
+  pub long : length (s .journal) ≡ L
+  pub fits : length (s .kept) ≤ capacity L
 
 pub after-desk : (card : Card) (H K : ℕ → Record) (m : ℕ) → ((i : ℕ) → i < m → H i ≡ K i) → desk-at card H m ≡ desk-at card K m
 after-desk card H K m h = ap (λ (a : AfterTick). record { card = card; n = m; state = a .state }) (after-same card H K m h)
 
 module _ (card : Card) (L : ℕ) (ok : cardInRange card ≡ true) (s : Drive) (v : Kept card L s) where
-  n-is : s .desk .n ≡ length (s .kept)
+  pub n-is : s .desk .n ≡ length (s .kept)
   n-is = ap (λ (d : Desk). d .n) (v .is)
 
   small : recordWidth * length (s .kept) ≤ L
@@ -139,12 +162,12 @@ module _ (card : Card) (L : ℕ) (ok : cardInRange card ≡ true) (s : Drive) (v
       let m = small in
       record { desk-good = desk-good; long = omega arith }
 
-  tick-open : (x : Sample) → sampleRefusal x ≡ 0 → length (s .kept) < capacity L → tickRefusal (s .desk) x (s .journal) ≡ 0
+  pub tick-open : (x : Sample) → sampleRefusal x ≡ 0 → length (s .kept) < capacity L → tickRefusal (s .desk) x (s .journal) ≡ 0
   tick-open x f h =
       let n = n-is in
       Calls.taken-tick _ _ _ (record { desk = desk-fit; below = rw (v .long) (omega arith); fine = f })
 
-  back-open : (k : ℕ) → k ≤ length (s .kept) → backRefusal (s .desk) k (s .journal) ≡ 0
+  pub back-open : (k : ℕ) → k ≤ length (s .kept) → backRefusal (s .desk) k (s .journal) ≡ 0
   back-open k h =
       let n = n-is in
       Calls.taken-back _ _ _ (record { desk = desk-fit; few = omega arith; good = each-all _ _ (λ i l. good i (omega arith)) })
@@ -155,17 +178,17 @@ module _ (card : Card) (L : ℕ) (ok : cardInRange card ≡ true) (s : Drive) (v
       let e : backRefusal (s .desk) k (s .journal) ≡ backTooFar = Calls.back-many _ _ _ desk-fit (omega arith) in
       Calls.back-no _ _ _ (λ z. omega (arith, e, z)) ∙ ap (refused (s .desk)) e
 
-  restart-is : outcome s Restart ≡ refused (freshDesk (s .desk .card)) 0
+  pub restart-is : outcome s Restart ≡ refused (freshDesk (s .desk .card)) 0
   unfolding outcome restartOutcome
   restart-is = rw desk-good
 
   tick-adds : (x : Sample) → sampleRefusal x ≡ 0 → length (s .kept) < capacity L → call s (Tick x) .kept ≡ s .kept ++ (x ∷ [])
-  unfolding call outcome survivors
+  unfolding call next outcome survivors
   tick-adds x f h = rw (Calls.tick-yes (s .desk) x (s .journal) (tick-open x f h) .0)
 
   -- ---- an accepted call keeps it
   ticked : (x : Sample) → tickRefusal (s .desk) x (s .journal) ≡ 0 → Kept card L (call s (Tick x))
-  unfolding call outcome journalAfter survivors
+  unfolding call next outcome journalAfter survivors
   ticked x e =
       let yes = Calls.tick-yes (s .desk) x (s .journal) e in
       let t = Calls.tick-taken _ _ _ e in
@@ -178,7 +201,8 @@ module _ (card : Card) (L : ℕ) (ok : cardInRange card ≡ true) (s : Drive) (v
       let new : records K n ≡ r = records-new J n r fit (let q = sample-v x in omega arith) in
       let there : putRecord J (recordWidth * s .desk .n) r ≡ K = ap (λ (m : ℕ). putRecord J (recordWidth * m) r) n-is in
       let one-more : advance card (after card (records J) n .state) r ≡ after card (records K) (n + 1) =
-      sym (after-next card (records K) n ∙ ap₂ (λ (a : AfterTick) (q : Record). advance card (a .state) q) (after-same card (records K) (records J) n old) new) in
+      sym (after-next card (records K) n
+      ∙ ap₂ (λ (a : AfterTick) (q : Record). advance card (a .state) q) (after-same card (records K) (records J) n old) new) in
       rw (yes .0, yes .1, there)
       (record {
         is =
@@ -192,7 +216,7 @@ module _ (card : Card) (L : ℕ) (ok : cardInRange card ≡ true) (s : Drive) (v
       })
 
   backed : (k : ℕ) → backRefusal (s .desk) k (s .journal) ≡ 0 → Kept card L (call s (Back k))
-  unfolding call outcome journalAfter survivors
+  unfolding call next outcome journalAfter survivors
   backed k e =
       let n = length (s .kept) in
       let H = records (s .journal) in
@@ -209,7 +233,7 @@ module _ (card : Card) (L : ℕ) (ok : cardInRange card ≡ true) (s : Drive) (v
       })
 
   restarted : Kept card L (call s Restart)
-  unfolding call journalAfter survivors after
+  unfolding call next journalAfter survivors after
   restarted =
       rw restart-is
       (record {
@@ -222,11 +246,11 @@ module _ (card : Card) (L : ℕ) (ok : cardInRange card ≡ true) (s : Drive) (v
 
   -- ---- and a refused one leaves the drive as it was
   tick-refused : (x : Sample) → (tickRefusal (s .desk) x (s .journal) ≡ 0 → ⊥) → call s (Tick x) ≡ s
-  unfolding call outcome journalAfter
+  unfolding call next outcome journalAfter
   tick-refused x f = let no = Calls.tick-no (s .desk) x (s .journal) f in rw (no .0, no .1, ne-eqb _ _ f)
 
   back-refused : (k : ℕ) → (backRefusal (s .desk) k (s .journal) ≡ 0 → ⊥) → call s (Back k) ≡ s
-  unfolding call outcome journalAfter
+  unfolding call next outcome journalAfter
   back-refused k f = rw (Calls.back-no (s .desk) k (s .journal) f, ne-eqb _ _ f)
 
   called : (c : Call) → Kept card L (call s c)
@@ -242,17 +266,18 @@ module _ (card : Card) (L : ℕ) (ok : cardInRange card ≡ true) (s : Drive) (v
       go (no f) = rw (back-refused k f) v
   called Restart = restarted
 
-all-called : (card : Card) (L : ℕ) → cardInRange card ≡ true → (s : Drive) → Kept card L s → (cs : List Call) → Kept card L (calls s cs)
+pub all-called : (card : Card) (L : ℕ) → cardInRange card ≡ true → (s : Drive) → Kept card L s → (cs : List Call) → Kept card L (calls s cs)
 unfolding calls
 all-called card L ok s v [] = v
 all-called card L ok s v (c ∷ cs) = all-called card L ok (call s c) (called card L ok s v c) cs
 
-begun : (card : Card) (J : List ℕ) → cardInRange card ≡ true → Kept card (length J) (opened card J)
+pub begun : (card : Card) (J : List ℕ) → cardInRange card ≡ true → Kept card (length J) (opened (openOutcome card) J)
 unfolding openOutcome after
 begun card J ok = rw ok (record { is = refl; held = λ i h. absurd (omega arith); fine = tt; long = refl; fits = omega arith })
 
 -- ---- a fresh desk takes every survivor
-fed : (card : Card) (L : ℕ) → cardInRange card ≡ true → (s : Drive) → Kept card L s → (xs : List Sample) → Fine xs → length (s .kept) + length xs ≤ capacity L → calls s (map Tick xs) .kept ≡ s .kept ++ xs
+pub fed : (card : Card) (L : ℕ) → cardInRange card ≡ true → (s : Drive) → Kept card L s → (xs : List Sample) → Fine xs
+    → length (s .kept) + length xs ≤ capacity L → calls s (map Tick xs) .kept ≡ s .kept ++ xs
 unfolding calls
 fed card L ok s v [] f h = sym (append-nil (s .kept))
 fed card L ok s v (x ∷ xs) f h =
@@ -270,7 +295,7 @@ module _ (card : Card) (L : ℕ) (ok : cardInRange card ≡ true) (s t : Drive) 
   same-records : (i : ℕ) → i < length (s .kept) → records (s .journal) i ≡ records (t .journal) i
   same-records i h = v .held i h ∙ ap (λ (l : List Sample). survivor l i) (sym e) ∙ sym (w .held i (rw e h))
 
-  desks-same : s .desk ≡ t .desk
+  pub desks-same : s .desk ≡ t .desk
   desks-same =
       v .is ∙ after-desk card (records (s .journal)) (records (t .journal)) (length (s .kept)) same-records
       ∙ ap (λ (l : List Sample). desk-at card (records (t .journal)) (length l)) (sym e)
@@ -288,7 +313,8 @@ module _ (card : Card) (L : ℕ) (ok : cardInRange card ≡ true) (s t : Drive) 
           let m = ap length e in
           Calls.back-yes _ _ _ (back-open card L ok s v k h)
           ∙ ap (λ (d : Desk). accepted (d .card) (d .n - k) (after (d .card) (records (s .journal)) (d .n - k))) desks-same
-          ∙ ap (accepted (t .desk .card) (t .desk .n - k)) (after-same _ (records (s .journal)) (records (t .journal)) (t .desk .n - k) (λ i l. same-records i (omega arith)))
+          ∙ ap (accepted (t .desk .card) (t .desk .n - k))
+          (after-same _ (records (s .journal)) (records (t .journal)) (t .desk .n - k) (λ i l. same-records i (omega arith)))
           ∙ sym (Calls.back-yes _ _ _ (back-open card L ok t w k (omega arith)))
       go (no h) =
           let m = ap length e in
@@ -296,57 +322,31 @@ module _ (card : Card) (L : ℕ) (ok : cardInRange card ≡ true) (s t : Drive) 
   outcomes-same Restart = ap restartOutcome desks-same
 
   kept-same : (c : Call) → call t c .kept ≡ call s c .kept
-  unfolding call
+  unfolding call next
   kept-same c = rw (outcomes-same c, e)
 
-from-here : (card : Card) (L : ℕ) → cardInRange card ≡ true → (s t : Drive) → Kept card L s → Kept card L t → t .kept ≡ s .kept → (cs : List Call) → outcomes s cs ≡ outcomes t cs
+pub from-here : (card : Card) (L : ℕ) → cardInRange card ≡ true → (s t : Drive) → Kept card L s → Kept card L t → t .kept ≡ s .kept
+    → (cs : List Call) → outcomes s cs ≡ outcomes t cs
 unfolding outcomes
 from-here card L ok s t v w e [] = refl
 from-here card L ok s t v w e (c ∷ cs) =
     ap₂ (λ (x : Outcome) (xs : List Outcome). x ∷ xs) (outcomes-same card L ok s t v w e c)
     (from-here card L ok (call s c) (call t c) (called card L ok s v c) (called card L ok t w c) (kept-same card L ok s t v w e c) cs)
 
-refused-is : (card : Card) (L : ℕ) (ok : cardInRange card ≡ true) (s : Drive) (v : Kept card L s) (c : Call) → (outcome s c .refusal ≡ 0 → ⊥) → call s c ≡ s
+pub refused-is : (card : Card) (L : ℕ) (ok : cardInRange card ≡ true) (s : Drive) (v : Kept card L s) (c : Call)
+    → (outcome s c .refusal ≡ 0 → ⊥) → call s c ≡ s
 unfolding outcome
 refused-is card L ok s v (Tick x) f = tick-refused card L ok s v x (λ e. f (ap (λ (o : Outcome). o .refusal) (Calls.tick-yes _ _ _ e .0)))
 refused-is card L ok s v (Back k) f = back-refused card L ok s v k (λ e. f (ap (λ (o : Outcome). o .refusal) (Calls.back-yes _ _ _ e)))
 refused-is card L ok s v Restart f = absurd (f (ap (λ (o : Outcome). o .refusal) (restart-is card L ok s v)))
 
-opens : (card : Card) → cardInRange card ≡ true → openOutcome card .refusal ≡ 0
-unfolding openOutcome
-opens card ok = rw ok
-
-pub demand3 : Demand3
-unfolding outcome
-demand3 card ok = (
-  opens card ok,
-  λ J K cs e.
-      let L = length J in
-      let s = calls (opened card J) cs in
-      let t = calls (opened card K) (map Tick (s .kept)) in
-      let v : Kept card L s = all-called card L ok (opened card J) (begun card J ok) cs in
-      let b : Kept card L (opened card K) = rw e at (begun card K ok) in
-      let w : Kept card L t = all-called card L ok (opened card K) b (map Tick (s .kept)) in
-      let same : t .kept ≡ s .kept = fed card L ok (opened card K) b (s .kept) (v .fine) (let h = v .fits in omega arith) in
-      record {
-        all-fed = same;
-        same-desk = desks-same card L ok s t v w same;
-        counted = n-is card L ok s v;
-        next-tick = λ x. outcomes-same card L ok s t v w same (Tick x);
-        from-here = from-here card L ok s t v w same;
-        ticks = λ x f h. ap (λ (o : Outcome). o .refusal) (Calls.tick-yes _ _ _ (tick-open card L ok s v x f h) .0);
-        steps-back = λ k h. ap (λ (o : Outcome). o .refusal) (Calls.back-yes _ _ _ (back-open card L ok s v k h));
-        restarts = ap (λ (o : Outcome). o .refusal) (restart-is card L ok s v);
-        refused-nothing = refused-is card L ok s v;
-      },
-)
-
 -- ---- the answer of a step back
-fine-front : (xs : List Sample) (x : Sample) → Fine (xs ++ (x ∷ [])) → Fine xs × (sampleRefusal x ≡ 0)
+pub fine-front : (xs : List Sample) (x : Sample) → Fine (xs ++ (x ∷ [])) → Fine xs × (sampleRefusal x ≡ 0)
 fine-front [] x f = (tt, f .0)
 fine-front (y ∷ xs) x f = let r = fine-front xs x (f .1) in ((f .0, r .0), r .1)
 
-module _ (card : Card) (L : ℕ) (ok : cardInRange card ≡ true) (s t : Drive) (v : Kept card L s) (w : Kept card L t) (k : ℕ) (xs : List Sample) (x : Sample)
+module _ (card : Card) (L : ℕ) (ok : cardInRange card ≡ true) (s t : Drive) (v : Kept card L s) (w : Kept card L t)
+    (k : ℕ) (xs : List Sample) (x : Sample)
     (few : k ≤ length (s .kept)) (is : take (length (s .kept) - k) (s .kept) ≡ xs ++ (x ∷ [])) (e : t .kept ≡ xs) where
   count : length (s .kept) - k ≡ length xs + 1
   count = sym (length-take-le (length (s .kept) - k) (s .kept) (omega arith)) ∙ ap length is ∙ length-snoc xs x
@@ -366,7 +366,7 @@ module _ (card : Card) (L : ℕ) (ok : cardInRange card ≡ true) (s t : Drive) 
   room-left : length (t .kept) < capacity L
   room-left = let c = count in let f = v .fits in rw e (omega arith)
 
-  answers-same : outcome s (Back k) .answer ≡ outcome t (Tick x) .answer
+  pub answers-same : outcome s (Back k) .answer ≡ outcome t (Tick x) .answer
   unfolding outcome
   answers-same =
       let n = n-is card L ok s v in
@@ -376,30 +376,7 @@ module _ (card : Card) (L : ℕ) (ok : cardInRange card ≡ true) (s t : Drive) 
       ∙ ap (λ (q : Desk). after (q .card) (records (s .journal)) (q .n - k) .answer) (v .is)
       ∙ ap (λ (i : ℕ). after card (records (s .journal)) i .answer) count
       ∙ ap (λ (a : AfterTick). a .answer) (after-next card (records (s .journal)) m)
-      ∙ ap₂ (λ (a : AfterTick) (q : Record). advance card (a .state) q .answer) (after-same card (records (s .journal)) (records (t .journal)) m front) (there m (omega arith) ∙ survivor-new xs x)
+      ∙ ap₂ (λ (a : AfterTick) (q : Record). advance card (a .state) q .answer)
+      (after-same card (records (s .journal)) (records (t .journal)) m front) (there m (omega arith) ∙ survivor-new xs x)
       ∙ sym (ap (λ (q : Desk). advance (q .card) (q .state) (sampleRecord x) .answer) d)
       ∙ sym (ap (λ (o : Outcome). o .answer) (Calls.tick-yes _ _ _ (tick-open card L ok t w x (fine-both .1) room-left) .0))
-
-pub last-answer : LastAnswer
-unfolding survivors
-last-answer card J K cs k xs x ok e few is =
-    let L = length J in
-    let s = calls (opened card J) cs in
-    let t = calls (opened card K) (map Tick xs) in
-    let v : Kept card L s = all-called card L ok (opened card J) (begun card J ok) cs in
-    let b : Kept card L (opened card K) = rw e at (begun card K ok) in
-    let w : Kept card L t = all-called card L ok (opened card K) b (map Tick xs) in
-    let f : Fine xs = fine-front xs x (rw is at (fine-take (length (s .kept) - k) (s .kept) (v .fine))) .0 in
-    let long : length xs + 1 ≡ length (s .kept) - k = sym (sym (length-take-le (length (s .kept) - k) (s .kept) (omega arith)) ∙ ap length is ∙ length-snoc xs x) in
-    answers-same card L ok s t v w k xs x few is (fed card L ok (opened card K) b xs f (let h = v .fits in omega arith))
-
-pub none-left : NoneLeft
-unfolding outcome after
-none-left card J cs ok =
-    let L = length J in
-    let s = calls (opened card J) cs in
-    let v : Kept card L s = all-called card L ok (opened card J) (begun card J ok) cs in
-    let k = length (s .kept) in
-    let gone : s .desk .n - k ≡ 0 = omega (arith, n-is card L ok s v) in
-    ap (λ (o : Outcome). o .answer) (Calls.back-yes _ _ _ (back-open card L ok s v k (omega arith)))
-    ∙ ap (λ (i : ℕ). after (s .desk .card) (records (s .journal)) i .answer) gone

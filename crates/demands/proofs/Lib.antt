@@ -1,0 +1,11 @@
+pub mod Functions
+pub mod Exactly
+pub mod Ranges
+pub mod Readings
+pub mod Refusals
+pub mod Numbers
+pub mod Demand1
+pub mod Demand2
+pub mod Replay
+pub mod Demand3
+pub mod Valve

@@ -1,0 +1,41 @@
+-- The valve, `valve`, of our functions: what an accepted call answers is what the desk holds that it returns.
+-- From the contracts' equations, by what an answer says of its state (rules/proofs/Valve.antt). Assumes nothing.
+use Prim.Native.Nat.{ℕ}
+use mathlib.Core.Path.{_≡_}
+use mathlib.Core.Bool.{true, not}
+use mathlib.Core.Logic.{_↔_}
+use lib.Dec.{eqb}
+use borrow.Author.Tests.{eqb-false, ne-eqb}
+use Rattle.numbers.proofs.Tests.{not-iff}
+use Rattle.card.specs.declared.Card.{Card}
+use Rattle.causes.specs.Held.{lowest, howMany}
+use Rattle.rules.proofs.Valve.{Shows, none-shows, advance-shows, after-shows, mask-held}
+use Rattle.desk.specs.declared.Outcome.{Outcome}
+use Rattle.demands.specs.Demand2.{Begins}
+use Rattle.demands.specs.Valve.{ValveIs, Valve}
+use Rattle.demands.proofs.Functions.{functions}
+use Rattle.demands.proofs.Demand2.{demand2}
+
+zero-test : (m : ℕ) → (not (eqb m 0) ≡ true) ↔ (m ≡ 0 → ⊥)
+zero-test m = (λ e. eqb-false m 0 (not-iff (eqb m 0) .0 e), λ n. not-iff (eqb m 0) .1 (ne-eqb m 0 n))
+
+valve-is : (o : Outcome) → Shows (o .answer) (o .desk .state) → ValveIs o
+unfolding lowest howMany
+valve-is o w = record {
+  by-causes = rw (w .causes) (mask-held (o .desk .state .causes) (w .most));
+  by-byte = zero-test (o .answer .causes);
+  byte = w .causes;
+  lowest = w .lowest;
+  count = w .held;
+}
+
+begins : (card : Card) (o : Outcome) → Begins card o → ValveIs o
+begins card o b = valve-is o (rw (b .desk, b .answer) none-shows)
+
+pub valve : Valve functions
+valve = record {
+  opening = λ card o f z. begins card o (demand2 .opening card o f .1 z);
+  tick = λ d x J o K f z. let g = demand2 .tick d x J o K f .1 z .2 in valve-is o (rw (g .desk, g .answer) (advance-shows _ _ _));
+  step-back = λ d k J o f z. let g = demand2 .step-back d k J o f .1 z in valve-is o (rw (g .desk, g .answer) (after-shows _ _ _));
+  restart = λ d o f z. begins (d .card) o (demand2 .restart d o f .1 z);
+}

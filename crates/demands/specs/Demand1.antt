@@ -1,0 +1,53 @@
+-- Demand 1: every call returns, whatever is handed over; refused, it returns a number of its list and, from a call on a desk, zeros and the desk
+-- handed in, and every lent byte keeps its value. (That the code comes to its end is what the check proves of every function.)
+use Prim.Native.Nat.{ℕ, _<_}
+use mathlib.Core.Path.{_≡_}
+use mathlib.Core.Logic.{_⊎_}
+use mathlib.Core.List.{List, [], _∷_}
+use Rattle.card.specs.declared.Card.{Card}
+use Rattle.record.specs.declared.Sample.{Sample}
+use Rattle.desk.specs.declared.Desk.{Desk}
+use Rattle.desk.specs.declared.Outcome.{Outcome}
+use Rattle.file.specs.declared.Counts.{Counts}
+use Rattle.file.specs.declared.Total.{Total}
+use Rattle.demands.specs.Functions.{Functions}
+use Rattle.demands.specs.Ranges.{zeroDesk, zeroAnswer}
+
+pub record Returning (F : Functions) : Type 0 where
+  pub opening : (card : Card) → (out : Outcome) × F .opens card out
+  pub tick : (desk : Desk) (sample : Sample) (journal : List ℕ) → (out : Outcome) × (left : List ℕ) × F .ticks desk sample journal out left
+  pub step-back : (desk : Desk) (k : ℕ) (journal : List ℕ) → (out : Outcome) × F .steps-back desk k journal out
+  pub restart : (desk : Desk) → (out : Outcome) × F .restarts desk out
+  pub reader : (file : List ℕ) → (counts : Counts) × F .reads file counts
+  pub exercise : (file : List ℕ) (card : ℕ) (buffer : List ℕ) → (total : Total) × (left : List ℕ) × F .runs file card buffer total left
+  pub host : (file : List ℕ) (card : ℕ) (buffer : List ℕ) → (number : ℕ) × (left : List ℕ) × F .hosts file card buffer number left
+
+unfoldable pub OneOf : List ℕ → ℕ → Type 0
+OneOf [] x = ⊥
+OneOf (number ∷ numbers) x = (x ≡ number) ⊎ OneOf numbers x
+
+-- what a refused call returns: one of the numbers, this desk, an answer of zeros
+pub record Refused (numbers : List ℕ) (handed : Desk) (out : Outcome) : Type 0 where
+  pub number : OneOf numbers (out .refusal)
+  pub desk : out .desk ≡ handed
+  pub answer : out .answer ≡ zeroAnswer
+
+pub record Demand1 (F : Functions) : Type 0 where
+  pub returning : Returning F
+  pub opening : (card : Card) (out : Outcome) → F .opens card out →
+      (out .refusal ≡ 0 → ⊥) → Refused (4 ∷ []) zeroDesk out
+  pub tick : (desk : Desk) (sample : Sample) (journal : List ℕ) (out : Outcome) (left : List ℕ) → F .ticks desk sample journal out left →
+      (out .refusal ≡ 0 → ⊥) → Refused (5 ∷ 6 ∷ 7 ∷ 1 ∷ 2 ∷ 3 ∷ []) desk out × (left ≡ journal)
+  pub step-back : (desk : Desk) (k : ℕ) (journal : List ℕ) (out : Outcome) → F .steps-back desk k journal out →
+      (out .refusal ≡ 0 → ⊥) → Refused (5 ∷ 6 ∷ 8 ∷ 9 ∷ []) desk out
+  pub restart : (desk : Desk) (out : Outcome) → F .restarts desk out →
+      (out .refusal ≡ 0 → ⊥) → Refused (5 ∷ []) desk out
+  -- the reader and the exercise: counts of zeros
+  pub reader : (file : List ℕ) (counts : Counts) → F .reads file counts →
+      (counts .refusal ≡ 0 → ⊥) → OneOf (10 ∷ 4 ∷ 11 ∷ 9 ∷ []) (counts .refusal)
+      × (counts .cards ≡ 0) × (counts .runs ≡ 0) × (counts .ticks ≡ 0)
+  pub exercise : (file : List ℕ) (card : ℕ) (buffer : List ℕ) (total : Total) (left : List ℕ) → F .runs file card buffer total left →
+      (total .refusal ≡ 0 → ⊥) → OneOf (10 ∷ 4 ∷ 13 ∷ 11 ∷ 9 ∷ 12 ∷ []) (total .refusal) × (total .ticks ≡ 0) × (left ≡ buffer)
+  -- no exercise has more than 7,200 ticks: a greater number is a refusal
+  pub host : (file : List ℕ) (card : ℕ) (buffer : List ℕ) (number : ℕ) (left : List ℕ) → F .hosts file card buffer number left →
+      7200 < number → OneOf (10010 ∷ 10004 ∷ 10013 ∷ 10011 ∷ 10009 ∷ 10012 ∷ []) number × (left ≡ buffer)

@@ -1,1 +1,0 @@
-// No code: demands 2 and 3, stated in specs/ and proved in proofs/.
