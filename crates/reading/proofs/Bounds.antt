@@ -25,7 +25,9 @@ speed-value-most x = quantity-has (λ s. speedValue s ≤ topSpeed) Refused spee
 
 pub pressure-band-most : (x : Float) → pressureBand (pressureOf x) ≤ 2
 unfolding pressureOf pressureBand pressureAt bandAt
-pressure-band-most x = quantity-has (λ p. pressureBand p ≤ 2) Outside pressureAt (omega arith) (λ n d. go (leb n (10 * d)) (ltb (2 * n) (7 * d)) (ltb (2 * n) (9 * d))) x
+pressure-band-most x =
+    quantity-has (λ p. pressureBand p ≤ 2) Outside pressureAt (omega arith)
+    (λ n d. go (leb n (10 * d)) (ltb (2 * n) (7 * d)) (ltb (2 * n) (9 * d))) x
   where
     go : (t a b : Bool) → pressureBand (cond t (Band (cond a 0 (cond b 1 2))) Outside) ≤ 2
     go false a b = omega arith

@@ -69,7 +69,8 @@ refused r f (fin false m e) h =
     least : (d k : ℕ) → 0 * d ≤ k * 1
     least d k = omega arith
 
-pub taken : {A : Type 0} (r : A) (f : ℕ → ℕ → A) (s : Bool) (m : ℕ) (e : ℤ) → le zero (fin s m e) ≡ true → quantity r f (fin s m e) ≡ f (m * up e) (down e)
+pub taken : {A : Type 0} (r : A) (f : ℕ → ℕ → A) (s : Bool) (m : ℕ) (e : ℤ) → le zero (fin s m e) ≡ true
+    → quantity r f (fin s m e) ≡ f (m * up e) (down e)
 unfolding quantity
 taken r f true m e h = simp (le-ltb 0 m (le-of-eq (minus-zero m e h)))
 taken r f false m e h = refl
@@ -92,7 +93,8 @@ le-is (fin true m e) n d h = simp (minus-zero m e h, zero-mul, mul-zero, zero-ad
 le-is (fin false m e) n d h = rw (mul-comm (down d) (m * up e)) (or-leb (m * up e * down d) (n * up d * down e))
 
 -- ---- what holds of the refusal and of each fraction's answer holds of every float's
-pub quantity-has : {A : Type 0} (P : A → Type 0) (r : A) (f : ℕ → ℕ → A) → P r → ((n d : ℕ) → P (f n d)) → (x : Float) → P (quantity r f x)
+pub quantity-has : {A : Type 0} (P : A → Type 0) (r : A) (f : ℕ → ℕ → A) → P r → ((n d : ℕ) → P (f n d))
+    → (x : Float) → P (quantity r f x)
 unfolding quantity
 quantity-has P r f p q nan = p
 quantity-has P r f p q (inf s) = p
@@ -106,7 +108,8 @@ quantity-has P r f p q (fin s m e) = go (s && ltb 0 m)
 abbrev pub ByValue : {A : Type 0} → (ℕ → ℕ → A) → Type 0
 ByValue f = (n d a c : ℕ) → 0 < d → 0 < c → n * c ≡ a * d → f n d ≡ f a c
 
-pub by-value : {A : Type 0} (r : A) (f : ℕ → ℕ → A) → ByValue f → (x : Float) (a c : ℕ) → 0 < c → le zero x ≡ true → Equals x a c → quantity r f x ≡ f a c
+pub by-value : {A : Type 0} (r : A) (f : ℕ → ℕ → A) → ByValue f
+    → (x : Float) (a c : ℕ) → 0 < c → le zero x ≡ true → Equals x a c → quantity r f x ≡ f a c
 by-value r f same nan a c p h v = absurd v
 by-value r f same (inf s) a c p h v = absurd v
 by-value r f same (fin s m e) a c p h v = taken r f s m e h ∙ same (m * up e) (down e) a c (down-pos e) p v

@@ -1,3 +1,5 @@
+-- `codes_next` meets its contract: k, g and the raise by the contracts of their functions.
+-- The ranges are a law of the definition (`codes-next-ranges`).
 use Rattle.codes.specs.Ranges.{CodesRanges}
 use Rattle.codes.specs.Plus.{codesNext}
 use Rattle.numbers.proofs.Alike.{and-so}
@@ -18,9 +20,10 @@ step-3-plus-requires c κs = search needs
 returns : tie.Need-returns
 unfolding codesNext
 returns c =
-    let start = c .before .before .before in
+    let interrupted = c .before .before in
+    let start = interrupted .before in
     and-so CodesRanges
-    (simp (← c .step-3-plus .ensures .0, ← c .before .gap-next .ensures .0, ← c .before .before .interrupted-next .ensures .0))
+    (simp (← c .step-3-plus .ensures .0, ← c .before .gap-next .ensures .0, ← interrupted .interrupted-next .ensures .0))
     (codes-next-ranges _ _ _ (start .pre .0) (start .pre .1))
 
 pub codes-next-spec : {M : Type 1} → statement M

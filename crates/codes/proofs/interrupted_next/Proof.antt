@@ -1,3 +1,4 @@
+-- `interrupted_next` meets its contract: each return by the tests on the code and the last one that led to it.
 use Rattle.codes.specs.Gap.{interruptedNext}
 use borrow.Author.Tests.{eq-eqb, ne-eqb}
 use borrow.Author.Needs.{needs}
@@ -14,11 +15,15 @@ returns-2 c = (simp (eq-eqb _ _ (c .if2 .taken), ne-eqb _ _ (c .before .before .
 
 returns-3 : tie.Need-returns-3
 unfolding interruptedNext
-returns-3 c = (simp (eq-eqb _ _ (c .if3 .taken), ne-eqb _ _ (c .before .before .if2 .left), ne-eqb _ _ (c .before .before .before .before .if1 .left)), search needs)
+returns-3 c =
+    let gone = c .before .before in
+    (simp (eq-eqb _ _ (c .if3 .taken), ne-eqb _ _ (gone .if2 .left), ne-eqb _ _ (gone .before .before .if1 .left)), search needs)
 
 returns-4 : tie.Need-returns-4
 unfolding interruptedNext
-returns-4 c = (simp (ne-eqb _ _ (c .if3 .left), ne-eqb _ _ (c .before .before .if2 .left), ne-eqb _ _ (c .before .before .before .before .if1 .left)), search needs)
+returns-4 c =
+    let gone = c .before .before in
+    (simp (ne-eqb _ _ (c .if3 .left), ne-eqb _ _ (gone .if2 .left), ne-eqb _ _ (gone .before .before .if1 .left)), search needs)
 
 pub interrupted-next-spec : {M : Type 1} → statement M
 interrupted-next-spec = tie.close (tie.spec returns returns-2 returns-3 returns-4)

@@ -1,3 +1,4 @@
+-- `raise_by_code` meets its contract: each return by the test that compares the code with the last one.
 use Rattle.codes.specs.Plus.{raiseByCode}
 use borrow.Author.Tests.{eq-eqb, ne-eqb}
 use borrow.Author.Needs.{needs}

@@ -1,3 +1,5 @@
+-- `step_3_plus` meets its contract: the raise by the contract of `raise_by_code`, then each return by its tests.
+-- A raise that counts on was below its bound by the test.
 use Rattle.codes.specs.Plus.{step3Plus}
 use borrow.Author.Tests.{le-ltb, lt-ltb}
 use borrow.Author.Needs.{needs}
@@ -12,15 +14,23 @@ add-result c = search needs
 
 returns : tie.Need-returns
 unfolding step3Plus
-returns c = (simp (lt-ltb _ _ (c .if2 .taken), c .before .if1 .taken, ← c .before .before .before .before .raise-by-code .ensures .0), search needs)
+returns c =
+    let plus = c .before in
+    let read = plus .before .before in
+    (simp (lt-ltb _ _ (c .if2 .taken), plus .if1 .taken, ← read .before .raise-by-code .ensures .0), search needs)
 
 returns-2 : tie.Need-returns-2
 unfolding step3Plus
-returns-2 c = (simp (le-ltb _ _ (c .if2 .left), c .before .if1 .taken, ← c .before .before .before .before .raise-by-code .ensures .0), search needs)
+returns-2 c =
+    let plus = c .before in
+    let read = plus .before .before in
+    (simp (le-ltb _ _ (c .if2 .left), plus .if1 .taken, ← read .before .raise-by-code .ensures .0), search needs)
 
 returns-3 : tie.Need-returns-3
 unfolding step3Plus
-returns-3 c = (simp (c .if1 .left, ← c .before .before .before .raise-by-code .ensures .0), search needs)
+returns-3 c =
+    let read = c .before .before in
+    (simp (c .if1 .left, ← read .before .raise-by-code .ensures .0), search needs)
 
 pub step-3-plus-spec : {M : Type 1} → statement M
 step-3-plus-spec =

@@ -1,3 +1,4 @@
+-- `target` meets its contract: each return by the tests on the code that led to it; a raise of at most 4 keeps 400 + 200 raises in range.
 use Rattle.codes.specs.Target.{target}
 use borrow.Author.Tests.{eq-eqb, ne-eqb}
 use borrow.Author.Needs.{needs}

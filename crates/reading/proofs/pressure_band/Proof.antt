@@ -1,3 +1,4 @@
+-- `pressure_band` meets its contract: each variant computes in the definition to what its arm returns.
 use borrow.Author.Needs.{needs}
 use Rattle.reading.specs.Pressure.{pressureBand}
 use Rattle.reading.proofs.pressure_band.Statement.{statement}

@@ -18,11 +18,14 @@ use Rattle.reading.proofs.pressure_of.Tie as tie
 abbrev answer : Bool → Bool → Bool → Pressure
 answer a b c = cond a (Band (cond b 0 (cond c 1 2))) Refused
 
-by-tests : (x : Float) (a b c : Bool) → le zero x ≡ true → le x (fin false 5 (pos 1)) ≡ a → lt x (fin false 7 (negsuc 0)) ≡ b → lt x (fin false 9 (negsuc 0)) ≡ c → answer a b c ≡ pressureOf x
+by-tests : (x : Float) (a b c : Bool) → le zero x ≡ true
+    → le x (fin false 5 (pos 1)) ≡ a → lt x (fin false 7 (negsuc 0)) ≡ b → lt x (fin false 9 (negsuc 0)) ≡ c
+    → answer a b c ≡ pressureOf x
 unfolding quantity pressureOf pressureAt bandAt
 by-tests x a b c h α β γ = go x (sym (le-is x 5 (pos 1) h) ∙ α) (sym (lt-is x 7 (negsuc 0) h) ∙ β) (sym (lt-is x 9 (negsuc 0) h) ∙ γ)
   where
-    go : (x : Float) → quantity false (λ n d. leb (1 * n) (10 * d)) x ≡ a → quantity false (λ n d. ltb (2 * n) (7 * d)) x ≡ b → quantity false (λ n d. ltb (2 * n) (9 * d)) x ≡ c
+    go : (x : Float) → quantity false (λ n d. leb (1 * n) (10 * d)) x ≡ a
+        → quantity false (λ n d. ltb (2 * n) (7 * d)) x ≡ b → quantity false (λ n d. ltb (2 * n) (9 * d)) x ≡ c
         → answer a b c ≡ pressureOf x
     go nan α β γ = rw (← α)
     go (inf s) α β γ = rw (← α)
@@ -38,11 +41,15 @@ returns c = by-tests _ true true _ (c .before .before .if1 .taken) (c .before .i
 
 returns-2 : tie.Need-returns-2
 unfolding ofBits
-returns-2 c = by-tests _ true false true (c .before .before .before .if1 .taken) (c .before .before .if2 .taken) (c .before .if3 .left) (c .if4 .taken)
+returns-2 c =
+    let within = c .before .before in
+    by-tests _ true false true (within .before .if1 .taken) (within .if2 .taken) (c .before .if3 .left) (c .if4 .taken)
 
 returns-3 : tie.Need-returns-3
 unfolding ofBits
-returns-3 c = by-tests _ true false false (c .before .before .before .if1 .taken) (c .before .before .if2 .taken) (c .before .if3 .left) (c .if4 .left)
+returns-3 c =
+    let within = c .before .before in
+    by-tests _ true false false (within .before .if1 .taken) (within .if2 .taken) (c .before .if3 .left) (c .if4 .left)
 
 returns-4 : tie.Need-returns-4
 unfolding ofBits

@@ -23,7 +23,8 @@ module _ (x : Float) (k : T (fits binary32 x)) (h : le zero x ≡ true) where
   unfolding speedOf speedAt
   slow l =
       let b = bits x in
-      sym (at-units _ _ x k speed-by-value h (omega arith) ∙ rw (rounded-slow (units b) (2 ^ 149) (pow-pos 149) (mul-le-mul-left 128 (units-most b 119 (omega arith)))))
+      let few = mul-le-mul-left 128 (units-most b 119 (omega arith)) in
+      sym (at-units _ _ x k speed-by-value h (omega arith) ∙ rw (rounded-slow (units b) (2 ^ 149) (pow-pos 149) few))
 
   fast : 133 < exponent (bits x) → Refused ≡ speedOf x
   unfolding speedOf speedAt
@@ -32,7 +33,9 @@ module _ (x : Float) (k : T (fits binary32 x)) (h : le zero x ≡ true) where
       let w : exponent b ≤ 255 = omega arith in
       elim (eq-or-lt-of-le w) [
         | inl o ↦ sym (at-ones _ _ x k o)
-        | inr v ↦ sym (at-units _ _ x k speed-by-value h v ∙ rw (lt-leb _ topSpeed (rounded-fast (units b) (2 ^ 149) (pow-pos 149) (units-least b 134 (omega arith) (omega arith)))))
+        | inr v ↦
+            let many = units-least b 134 (omega arith) (omega arith) in
+            sym (at-units _ _ x k speed-by-value h v ∙ rw (lt-leb _ topSpeed (rounded-fast (units b) (2 ^ 149) (pow-pos 149) many)))
       ]
 
   middle : 120 ≤ exponent (bits x) → exponent (bits x) ≤ 133
@@ -62,7 +65,9 @@ returns c = slow _ (held (c .before .before)) (c .before .if1 .taken) (c .if2 .t
 
 returns-2 : tie.Need-returns-2
 unfolding ofBits
-returns-2 c = fast _ (held (c .before .before .before)) (c .before .before .if1 .taken) (c .if3 .taken)
+returns-2 c =
+    let least = c .before .before in
+    fast _ (held (least .before)) (least .if1 .taken) (c .if3 .taken)
 
 add-digits : tie.Need-add-digits
 add-digits c = search needs
@@ -87,11 +92,15 @@ cast-t11 c = search needs
 
 returns-3 : tie.Need-returns-3
 unfolding ofBits
-returns-3 c = middle _ (held (c .before .before .before .before)) (c .before .before .before .if1 .taken) (c .before .before .if2 .left) (c .before .if3 .left) true _ refl (le-leb _ topSpeed (c .if4 .taken))
+returns-3 c =
+    let slow = c .before .before in
+    middle _ (held (slow .before .before)) (slow .before .if1 .taken) (slow .if2 .left) (c .before .if3 .left) true _ refl (le-leb _ topSpeed (c .if4 .taken))
 
 returns-4 : tie.Need-returns-4
 unfolding ofBits
-returns-4 c = middle _ (held (c .before .before .before .before)) (c .before .before .before .if1 .taken) (c .before .before .if2 .left) (c .before .if3 .left) false _ refl (lt-leb _ topSpeed (c .if4 .left))
+returns-4 c =
+    let slow = c .before .before in
+    middle _ (held (slow .before .before)) (slow .before .if1 .taken) (slow .if2 .left) (c .before .if3 .left) false _ refl (lt-leb _ topSpeed (c .if4 .left))
 
 returns-5 : tie.Need-returns-5
 unfolding ofBits speedOf

@@ -1,3 +1,4 @@
+-- `first_refusal` meets its contract: each return by its test of the first number.
 use Rattle.refusal.specs.Refusal.{firstRefusal}
 use borrow.Author.Tests.{eq-eqb, ne-eqb}
 use Rattle.refusal.proofs.first_refusal.Statement.{statement}

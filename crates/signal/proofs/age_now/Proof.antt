@@ -1,3 +1,4 @@
+-- `age_now` meets its contract: each return by whether the curve begins; an age in range has room for one more.
 use Rattle.signal.specs.Curve.{ageNow}
 use borrow.Author.Needs.{needs}
 use Rattle.signal.proofs.age_now.Statement.{statement}

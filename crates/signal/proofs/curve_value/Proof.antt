@@ -1,3 +1,4 @@
+-- `curve_value` meets its contract: what has fallen off as in the definition, its product within a u32 (`product-fits`).
 use Rattle.signal.specs.Speed.{curveValue}
 use Rattle.signal.proofs.Spent.{product-fits}
 use borrow.Author.Needs.{needs}

@@ -1,3 +1,5 @@
+-- `signal_speed` meets its contract: each return by the tests for MAN and a curve that led to it.
+-- A curve's value is at most the greater of T and V0, so that it stays in range.
 use Rattle.signal.specs.Speed.{signalSpeed}
 use borrow.Author.Tests.{le-ltb, lt-ltb}
 use borrow.Author.Needs.{needs}
@@ -13,7 +15,9 @@ curve-value-requires c κs = search needs
 
 returns-2 : tie.Need-returns-2
 unfolding signalSpeed
-returns-2 c = (simp (← c .curve-value .ensures .0, lt-ltb _ _ (c .before .if2 .taken), le-ltb _ _ (c .before .before .before .if1 .left)), search needs)
+returns-2 c =
+    let curve = c .before in
+    (simp (← c .curve-value .ensures .0, lt-ltb _ _ (curve .if2 .taken), le-ltb _ _ (curve .before .before .if1 .left)), search needs)
 
 returns-3 : tie.Need-returns-3
 unfolding signalSpeed

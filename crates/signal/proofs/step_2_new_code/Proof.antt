@@ -1,3 +1,4 @@
+-- `step_2_new_code` meets its contract: each return by the tests that led to it, and T, the gap and the old speed by their contracts.
 use Rattle.signal.specs.NewCode.{manByCode, curveByCode, curveBegins}
 use borrow.Author.Tests.{eq-eqb, le-ltb, lt-ltb, ne-eqb}
 use borrow.Author.Needs.{needs}
@@ -13,7 +14,9 @@ target-requires c κs = search needs
 
 returns-2 : tie.Need-returns-2
 unfolding manByCode curveByCode curveBegins
-returns-2 c = (simp (c .if2 .taken, ← c .before .before .before .target .ensures .0, ne-eqb _ _ (c .before .before .before .before .if1 .left)), search needs)
+returns-2 c =
+    let read = c .before .before in
+    (simp (c .if2 .taken, ← read .before .target .ensures .0, ne-eqb _ _ (read .before .before .if1 .left)), search needs)
 
 gap-man-requires : tie.Need-gap-man-requires
 gap-man-requires c κs = search needs
@@ -23,7 +26,20 @@ greater-requires c κs = search needs
 
 returns-3 : tie.Need-returns-3
 unfolding manByCode curveByCode curveBegins
-returns-3 c = (simp (← c .greater .ensures, c .before .if3 .taken, ← c .before .before .gap-man .ensures, c .before .before .before .if2 .left, ← c .before .before .before .before .before .before .target .ensures .0, ne-eqb _ _ (c .before .before .before .before .before .before .before .if1 .left)), search needs)
+returns-3 c = (
+  let gap = c .before .before in
+      let man-ends = gap .before in
+      let read = man-ends .before .before in
+      simp (
+        ← c .greater .ensures,
+        c .before .if3 .taken,
+        ← gap .gap-man .ensures,
+        man-ends .if2 .left,
+        ← read .before .target .ensures .0,
+        ne-eqb _ _ (read .before .before .if1 .left),
+      ),
+  search needs,
+)
 
 target-requires-2 : tie.Need-target-requires-2
 target-requires-2 c κs = search needs
@@ -33,11 +49,43 @@ signal-speed-requires c κs = search needs
 
 returns-4 : tie.Need-returns-4
 unfolding manByCode curveByCode curveBegins
-returns-4 c = (simp (lt-ltb _ _ (c .if4 .taken), ← c .before .signal-speed .ensures .0, ← c .before .before .target2 .ensures .0, c .before .before .before .if3 .left, ← c .before .before .before .before .gap-man .ensures, c .before .before .before .before .before .if2 .left, ← c .before .before .before .before .before .before .before .before .target .ensures .0, ne-eqb _ _ (c .before .before .before .before .before .before .before .before .before .if1 .left)), search needs)
+returns-4 c =
+    let old = c .before .before in
+    let gap = old .before .before in
+    let man-ends = gap .before in
+    let read = man-ends .before .before in (
+      simp (
+        lt-ltb _ _ (c .if4 .taken),
+        ← c .before .signal-speed .ensures .0,
+        ← old .target2 .ensures .0,
+        old .before .if3 .left,
+        ← gap .gap-man .ensures,
+        man-ends .if2 .left,
+        ← read .before .target .ensures .0,
+        ne-eqb _ _ (read .before .before .if1 .left),
+      ),
+      search needs,
+    )
 
 returns-5 : tie.Need-returns-5
 unfolding manByCode curveByCode curveBegins
-returns-5 c = (simp (le-ltb _ _ (c .if4 .left), ← c .before .signal-speed .ensures .0, ← c .before .before .target2 .ensures .0, c .before .before .before .if3 .left, ← c .before .before .before .before .gap-man .ensures, c .before .before .before .before .before .if2 .left, ← c .before .before .before .before .before .before .before .before .target .ensures .0, ne-eqb _ _ (c .before .before .before .before .before .before .before .before .before .if1 .left)), search needs)
+returns-5 c =
+    let old = c .before .before in
+    let gap = old .before .before in
+    let man-ends = gap .before in
+    let read = man-ends .before .before in (
+      simp (
+        le-ltb _ _ (c .if4 .left),
+        ← c .before .signal-speed .ensures .0,
+        ← old .target2 .ensures .0,
+        old .before .if3 .left,
+        ← gap .gap-man .ensures,
+        man-ends .if2 .left,
+        ← read .before .target .ensures .0,
+        ne-eqb _ _ (read .before .before .if1 .left),
+      ),
+      search needs,
+    )
 
 pub step-2-new-code-spec : {M : Type 1} → statement M
 step-2-new-code-spec =

@@ -1,3 +1,4 @@
+-- `step_4_man` meets its contract: each return by the tests that led to it; M never goes above what it was or LEAST_MAN.
 use Rattle.signal.specs.Man.{step4Man}
 use borrow.Author.Needs.{needs}
 use Rattle.signal.proofs.step_4_man.Statement.{statement}
@@ -15,7 +16,9 @@ greater-requires c κs = search needs
 
 returns-2 : tie.Need-returns-2
 unfolding step4Man
-returns-2 c = (simp (← c .greater .ensures, ← c .before .lesser .ensures, c .before .before .if2 .left, c .before .before .before .if1 .taken), search needs)
+returns-2 c =
+    let stays = c .before .before in
+    (simp (← c .greater .ensures, ← c .before .lesser .ensures, stays .if2 .left, stays .before .if1 .taken), search needs)
 
 returns-3 : tie.Need-returns-3
 unfolding step4Man

@@ -19,8 +19,10 @@ curve-value-requires c κs = search needs
 returns : tie.Need-returns
 unfolding curveHolds manStarts curveAged manStarted
 returns c =
-    let age = c .before .before in
-    (simp (eq-eqb _ _ (c .if2 .taken), ← c .before .curve-value .ensures .0, ← age .age-now .ensures .0, lt-ltb _ _ (age .before .if1 .taken)), search needs)
+    let age = c .before .before in (
+      simp (eq-eqb _ _ (c .if2 .taken), ← c .before .curve-value .ensures .0, ← age .age-now .ensures .0, lt-ltb _ _ (age .before .if1 .taken)),
+      search needs,
+    )
 
 greater-requires : tie.Need-greater-requires
 greater-requires c κs = search needs
@@ -28,11 +30,12 @@ greater-requires c κs = search needs
 returns-2 : tie.Need-returns-2
 unfolding curveHolds manStarts curveAged manStarted
 returns-2 c =
-    let over = c .before .before .before in
+    let pressed = c .before in
+    let over = pressed .before .before in
     let age = over .before .before in (
       simp (
         ← c .greater .ensures,
-        c .before .if3 .taken,
+        pressed .if3 .taken,
         ne-eqb _ _ (over .if2 .left),
         ← over .before .curve-value .ensures .0,
         ← age .age-now .ensures .0,
@@ -45,10 +48,11 @@ returns-3 : tie.Need-returns-3
 unfolding curveHolds manStarts curveAged manStarted
 returns-3 c =
     let over = c .before .before in
-    let value = over .before .curve-value in
-    let runs = over .before .before .before in
-    let age = over .before .before .age-now in
+    let aged = over .before .before in
+    let runs = aged .before in
     let start = runs .before .before in
+    let value = over .before .curve-value in
+    let age = aged .age-now in
     let a = start .args in
     let young : age .result < 5000 =
     unspent (a .card) (a .curve) (a .t) (age .result) (start .pre .0) (start .pre .1) (λ e. over .if2 .left (value .ensures .0 ∙ e)) in

@@ -36,7 +36,8 @@ returns c =
     let fourth = fifth .before in
     let third = fourth .before .before in
     let second = third .before .before in
-    let start = second .before .before .before in
+    let read = second .before .before in
+    let start = read .before in
     let curve-and-man = fifth .step-5-curve .ensures .0 in
     let by-code = second .step-2-new-code .ensures .0 in
     and-so SignalStepRanges
