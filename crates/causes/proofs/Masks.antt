@@ -92,7 +92,13 @@ module _ (bit : Causes → Bool) where
 pub held-mask : (c : Causes) → heldIn (maskOf c) ≡ c
 unfolding heldIn maskOf
 held-mask c =
-    rw (decodes (λ x. x .nz1) refl c, decodes (λ x. x .nz2) refl c, decodes (λ x. x .nz3) refl c, decodes (λ x. x .nz4) refl c, decodes (λ x. x .nz5) refl c)
+    rw (
+      decodes (λ x. x .nz1) refl c,
+      decodes (λ x. x .nz2) refl c,
+      decodes (λ x. x .nz3) refl c,
+      decodes (λ x. x .nz4) refl c,
+      decodes (λ x. x .nz5) refl c,
+    )
 
 -- ---- the triggers join the mask
 abbrev nothing : Causes

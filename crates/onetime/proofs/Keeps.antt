@@ -35,7 +35,8 @@ module _ (card : Card) (curve : Curve) (begins : Bool) (t v : ℕ) (k : Keys) (o
   unfolding promptTicksNext promptKindNext
   kind-quiet e = go (promptStays k o) (asksAhead card curve begins t v k o) (asksAtStart card curve begins t v k o) e
     where
-      go : (stays ahead start : Bool) → _≡_ {A = ℕ} (cond stays (o .ticks + 1) (cond (ahead || start) 1 0)) 0 → cond stays (o .kind) (cond ahead 1 0) ≡ 0
+      go : (stays ahead start : Bool) → _≡_ {A = ℕ} (cond stays (o .ticks + 1) (cond (ahead || start) 1 0)) 0
+          → cond stays (o .kind) (cond ahead 1 0) ≡ 0
       go true ahead start z = absurd (omega arith)
       go false true start z = absurd (omega arith)
       go false false start z = refl

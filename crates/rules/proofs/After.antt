@@ -19,7 +19,8 @@ pub after-next : (card : Card) (H : ℕ → Record) (m : ℕ) → after card H (
 unfolding after
 after-next card H m = ap (after card H) (add-one m)
 
-pub after-ranges : (card : Card) (H : ℕ → Record) (m : ℕ) → CardRanges card → ((i : ℕ) → i < m → RecordRanges (H i)) → StateRanges (after card H m .state)
+pub after-ranges : (card : Card) (H : ℕ → Record) (m : ℕ) → CardRanges card → ((i : ℕ) → i < m → RecordRanges (H i))
+    → StateRanges (after card H m .state)
 unfolding after
 after-ranges card H zero good fits = fresh-ranges
 after-ranges card H (suc m) good fits =

@@ -23,7 +23,8 @@ use Rattle.state.specs.declared.State.{State}
 use Rattle.state.specs.State.{StateRanges}
 use Rattle.state.proofs.Keeps.{step-1-mode-ranges}
 use Rattle.rules.specs.Permitted.{step6Permitted}
-use Rattle.rules.specs.Tick.{signalIn, permittedIn, kindIn, cyclicIn, oneTimeIn, directionIn, standingIn, heldNext, wrongwayNext, stateNext, steps2To10, advance}
+use Rattle.rules.specs.Tick.{signalIn, permittedIn, kindIn, cyclicIn, oneTimeIn, directionIn, standingIn}
+use Rattle.rules.specs.Tick.{heldNext, wrongwayNext, stateNext, steps2To10, advance}
 
 pub permitted-most : (card : Card) (mode speed : ℕ) → CardRanges card → step6Permitted card mode speed ≤ topSpeed
 unfolding step6Permitted

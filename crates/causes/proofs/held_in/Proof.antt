@@ -1,3 +1,4 @@
+-- `held_in` meets its contract: its five tests are those of the definition.
 use Rattle.causes.specs.Held.{heldIn}
 use mathlib.Core.Path.{refl}
 use Rattle.causes.proofs.held_in.Statement.{statement}

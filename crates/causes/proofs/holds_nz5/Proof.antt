@@ -1,3 +1,4 @@
+-- `holds_nz5` meets its contract: a field of what `held_in` gives.
 use mathlib.Core.Path.{ap}
 use borrow.Author.Needs.{needs}
 use Rattle.causes.specs.declared.Causes.{Causes}

@@ -1,3 +1,4 @@
+-- `how_many` meets its contract: the count of a mask's ones is the number of causes in it (`count-is`).
 use native.Mathlib.Omega.{arith}
 use Rattle.causes.proofs.Masks.{count-is}
 use Rattle.causes.proofs.how_many.Statement.{statement}

@@ -1,3 +1,4 @@
+-- `lowest` meets its contract: none in an empty mask (`lowest-none`), else one more than the mask's trailing zeros (`lowest-is`).
 use mathlib.Core.Path.{sym, ap, _∙_}
 use native.Mathlib.Omega.{arith}
 use Rattle.causes.specs.Held.{lowest}

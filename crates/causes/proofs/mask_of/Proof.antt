@@ -1,3 +1,4 @@
+-- `mask_of` meets its contract: each of the five terms by the contract of `weight`, and they come to at most 31.
 use Rattle.causes.specs.Held.{maskOf}
 use borrow.Author.Needs.{needs}
 use Rattle.causes.proofs.mask_of.Statement.{statement}
@@ -32,7 +33,17 @@ add-result-4 c = search needs
 
 returns : tie.Need-returns
 unfolding maskOf
-returns c = (simp (← c .weight5 .ensures .0, ← c .before .weight4 .ensures .0, ← c .before .before .weight3 .ensures .0, ← c .before .before .before .weight2 .ensures .0, ← c .before .before .before .before .weight .ensures .0), search needs)
+returns c =
+    let third = c .before .before in (
+      simp (
+        ← c .weight5 .ensures .0,
+        ← c .before .weight4 .ensures .0,
+        ← third .weight3 .ensures .0,
+        ← third .before .weight2 .ensures .0,
+        ← third .before .before .weight .ensures .0,
+      ),
+      search needs,
+    )
 
 pub mask-of-spec : {M : Type 1} → statement M
 mask-of-spec =

@@ -1,3 +1,4 @@
+-- `released` meets its contract: its five tests are those of the definition.
 use Rattle.causes.specs.Keeping.{released}
 use mathlib.Core.Path.{refl}
 use Rattle.causes.proofs.released.Statement.{statement}

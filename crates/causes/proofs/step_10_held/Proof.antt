@@ -1,3 +1,4 @@
+-- `step_10_held` meets its contract: its five tests are those of the definition.
 use Rattle.causes.specs.Keeping.{step10Held}
 use mathlib.Core.Path.{refl}
 use Rattle.causes.proofs.step_10_held.Statement.{statement}

@@ -1,3 +1,5 @@
+-- `step_10_mask` meets its contract: with a press by the contracts of the calls.
+-- Without one nothing is let go, and the `or` of the masks is the mask of both (`joined`).
 use Rattle.causes.proofs.Masks.{joined}
 use borrow.Author.Needs.{needs}
 use Rattle.causes.proofs.step_10_mask.Statement.{statement}
@@ -16,7 +18,16 @@ mask-of-requires : tie.Need-mask-of-requires
 mask-of-requires c κs = search needs
 
 returns : tie.Need-returns
-returns c = (simp (← c .mask-of .ensures .0, ← c .before .step-10-held .ensures, ← c .before .before .released .ensures, ← c .before .before .before .held-in .ensures), search needs)
+returns c =
+    let free = c .before .before in (
+      simp (
+        ← c .mask-of .ensures .0,
+        ← c .before .step-10-held .ensures,
+        ← free .released .ensures,
+        ← free .before .held-in .ensures,
+      ),
+      search needs,
+    )
 
 mask-of-requires-2 : tie.Need-mask-of-requires-2
 mask-of-requires-2 c κs = search needs

@@ -1,3 +1,4 @@
+-- `step_10_wrongway` meets its contract: with a press each return by the test of NZ3; without one nothing is let go.
 use mathlib.Core.Bool.{and-false}
 use Rattle.causes.specs.Keeping.{released, step10Wrongway}
 use borrow.Author.Needs.{needs}
@@ -12,11 +13,17 @@ released-requires c κs = search needs
 
 returns : tie.Need-returns
 unfolding step10Wrongway
-returns c = (simp (c .if2 .taken, ← c .before .before .before .before .released .ensures, ← c .before .before .before .before .before .held-in .ensures), search needs)
+returns c =
+    let read = c .before .before in
+    let free = read .before .before in
+    (simp (c .if2 .taken, ← free .released .ensures, ← free .before .held-in .ensures), search needs)
 
 returns-2 : tie.Need-returns-2
 unfolding step10Wrongway
-returns-2 c = (simp (c .if2 .left, ← c .before .before .before .before .released .ensures, ← c .before .before .before .before .before .held-in .ensures), search needs)
+returns-2 c =
+    let read = c .before .before in
+    let free = read .before .before in
+    (simp (c .if2 .left, ← free .released .ensures, ← free .before .held-in .ensures), search needs)
 
 returns-3 : tie.Need-returns-3
 unfolding step10Wrongway released

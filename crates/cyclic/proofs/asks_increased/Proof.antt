@@ -1,3 +1,5 @@
+-- `asks_increased` meets its contract: each return by the tests of mode, MAN and code that led to it.
+-- Every code but the one that was found drops out of the definition's `or` (`or-false`).
 use mathlib.Core.Path.{sym}
 use mathlib.Core.Bool.{or-false}
 use Rattle.cyclic.specs.Cyclic.{asksIncreased}
@@ -19,19 +21,62 @@ eased-requires c κs = search needs
 
 returns-3 : tie.Need-returns-3
 unfolding asksIncreased
-returns-3 c = simp (c .before .if3 .taken, or-false, ← c .before .before .before .eased .ensures, le-ltb _ _ (c .before .before .before .before .if2 .left), eq-eqb _ _ (c .before .before .before .before .before .before .if1 .left))
+returns-3 c =
+    let stop = c .before in
+    let eased = stop .before .before in
+    let no-man = eased .before in
+    simp (
+      stop .if3 .taken,
+      or-false,
+      ← eased .eased .ensures,
+      le-ltb _ _ (no-man .if2 .left),
+      eq-eqb _ _ (no-man .before .before .if1 .left),
+    )
 
 returns-4 : tie.Need-returns-4
 unfolding asksIncreased
-returns-4 c = simp (c .before .if4 .taken, ← c .before .before .before .before .before .eased .ensures, le-ltb _ _ (c .before .before .before .before .before .before .if2 .left), eq-eqb _ _ (c .before .before .before .before .before .before .before .before .if1 .left)) (sym (or-false _))
+returns-4 c =
+    let forty = c .before in
+    let stop = forty .before .before in
+    let eased = stop .before .before in
+    let no-man = eased .before in
+    simp (
+      forty .if4 .taken,
+      ← eased .eased .ensures,
+      le-ltb _ _ (no-man .if2 .left),
+      eq-eqb _ _ (no-man .before .before .if1 .left),
+    ) (sym (or-false _))
 
 returns-5 : tie.Need-returns-5
 unfolding asksIncreased
-returns-5 c = simp (eq-eqb _ _ (c .before .before .if5 .taken), ne-eqb _ _ (c .before .before .before .before .if4 .left), ne-eqb _ _ (c .before .before .before .before .before .before .if3 .left), le-ltb _ _ (c .before .before .before .before .before .before .before .before .before .if2 .left), eq-eqb _ _ (c .before .before .before .before .before .before .before .before .before .before .before .if1 .left))
+returns-5 c =
+    let warning = c .before .before in
+    let forty = warning .before .before in
+    let stop = forty .before .before in
+    let eased = stop .before .before in
+    let no-man = eased .before in
+    simp (
+      eq-eqb _ _ (warning .if5 .taken),
+      ne-eqb _ _ (forty .if4 .left),
+      ne-eqb _ _ (stop .if3 .left),
+      le-ltb _ _ (no-man .if2 .left),
+      eq-eqb _ _ (no-man .before .before .if1 .left),
+    )
 
 returns-6 : tie.Need-returns-6
 unfolding asksIncreased
-returns-6 c = simp (ne-eqb _ _ (c .if5 .left), ne-eqb _ _ (c .before .before .if4 .left), ne-eqb _ _ (c .before .before .before .before .if3 .left), le-ltb _ _ (c .before .before .before .before .before .before .before .if2 .left), eq-eqb _ _ (c .before .before .before .before .before .before .before .before .before .if1 .left))
+returns-6 c =
+    let forty = c .before .before in
+    let stop = forty .before .before in
+    let eased = stop .before .before in
+    let no-man = eased .before in
+    simp (
+      ne-eqb _ _ (c .if5 .left),
+      ne-eqb _ _ (forty .if4 .left),
+      ne-eqb _ _ (stop .if3 .left),
+      le-ltb _ _ (no-man .if2 .left),
+      eq-eqb _ _ (no-man .before .before .if1 .left),
+    )
 
 pub asks-increased-spec : {M : Type 1} → statement M
 asks-increased-spec =

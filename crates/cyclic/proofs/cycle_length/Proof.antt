@@ -1,3 +1,4 @@
+-- `cycle_length` meets its contract: each return by its test of the kind; a card's cycle is in range by the card's ranges.
 use Rattle.cyclic.specs.Cyclic.{cycleLength}
 use borrow.Author.Tests.{eq-eqb, ne-eqb}
 use borrow.Author.Needs.{needs}

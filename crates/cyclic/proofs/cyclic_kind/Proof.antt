@@ -20,14 +20,30 @@ pre-or-vyl-requires c κs = search needs
 returns-2 : tie.Need-returns-2
 unfolding asksOrdinary cyclicKind
 returns-2 c =
-    let eased = c .before .before in
-    (simp (c .if2 .taken, ← c .before .pre-or-vyl .ensures, ← eased .eased .ensures, eased .before .if1 .left, ← eased .before .before .asks-increased .ensures), search needs)
+    let eased = c .before .before in (
+      simp (
+        c .if2 .taken,
+        ← c .before .pre-or-vyl .ensures,
+        ← eased .eased .ensures,
+        eased .before .if1 .left,
+        ← eased .before .before .asks-increased .ensures,
+      ),
+      search needs,
+    )
 
 returns-3 : tie.Need-returns-3
 unfolding asksOrdinary cyclicKind
 returns-3 c =
-    let eased = c .before .before in
-    (simp (c .if2 .left, ← c .before .pre-or-vyl .ensures, ← eased .eased .ensures, eased .before .if1 .left, ← eased .before .before .asks-increased .ensures), search needs)
+    let eased = c .before .before in (
+      simp (
+        c .if2 .left,
+        ← c .before .pre-or-vyl .ensures,
+        ← eased .eased .ensures,
+        eased .before .if1 .left,
+        ← eased .before .before .asks-increased .ensures,
+      ),
+      search needs,
+    )
 
 pub cyclic-kind-spec : {M : Type 1} → statement M
 cyclic-kind-spec =

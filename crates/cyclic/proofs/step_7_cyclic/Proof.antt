@@ -21,8 +21,12 @@ cycle-length-requires c κs = search needs
 returns : tie.Need-returns
 unfolding cyclicLapses cyclicTicks cyclicPrompts
 returns c =
-    let length = c .before .before .before .before .cycle-length .ensures in
-    (simp (c .if1 .taken, ← length .0, and-false, lt-leb (c .before .before .before .before .cycle-length .result - 35) 0 (omega (arith, length .1))), search needs)
+    let read = c .before .before in
+    let at-length = read .before .before in
+    let length = at-length .cycle-length .ensures in (
+      simp (c .if1 .taken, ← length .0, and-false, lt-leb (at-length .cycle-length .result - 35) 0 (omega (arith, length .1))),
+      search needs,
+    )
 
 add-ticks : tie.Need-add-ticks
 add-ticks c = search needs
@@ -31,9 +35,18 @@ returns-2 : tie.Need-returns-2
 unfolding cyclicLapses cyclicTicks cyclicPrompts
 returns-2 c =
     let restarts = c .before .before in
-    let at-length = restarts .before .before .before .before in
-    let length = at-length .cycle-length .ensures in
-    (simp (le-leb _ _ (c .if2 .taken), restarts .if1 .left, ← length .0, and-false, lt-leb (at-length .cycle-length .result - 35) 0 (omega (arith, length .1))), search needs)
+    let read = restarts .before .before in
+    let at-length = read .before .before in
+    let length = at-length .cycle-length .ensures in (
+      simp (
+        le-leb _ _ (c .if2 .taken),
+        restarts .if1 .left,
+        ← length .0,
+        and-false,
+        lt-leb (at-length .cycle-length .result - 35) 0 (omega (arith, length .1)),
+      ),
+      search needs,
+    )
 
 sub-t15 : tie.Need-sub-t15
 sub-t15 c = search needs
@@ -51,9 +64,17 @@ returns-3 : tie.Need-returns-3
 unfolding cyclicLapses cyclicTicks
 returns-3 c =
     let goes-on = c .before .before in
-    let at-length = goes-on .before .before .before .before in
-    let a = at-length .before .args in
-    (simp (by-count (a .card) (a .kind) (a .old) (a .keys) (goes-on .if1 .left), lt-leb _ _ (c .if2 .left), goes-on .if1 .left, ← at-length .cycle-length .ensures .0), search needs)
+    let read = goes-on .before .before in
+    let at-length = read .before .before in
+    let a = at-length .before .args in (
+      simp (
+        by-count (a .card) (a .kind) (a .old) (a .keys) (goes-on .if1 .left),
+        lt-leb _ _ (c .if2 .left),
+        goes-on .if1 .left,
+        ← at-length .cycle-length .ensures .0,
+      ),
+      search needs,
+    )
 
 pub step-7-cyclic-spec : {M : Type 1} → statement M
 step-7-cyclic-spec =

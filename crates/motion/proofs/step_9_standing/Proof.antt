@@ -38,23 +38,30 @@ lesser-requires c κs = search needs
 
 sub-t14 : tie.Need-sub-t14
 sub-t14 c =
-    let at-if2 = c .before .before .before in
-    let at-if1 = at-if2 .before .before .before .before .before in
-    omega (arith, wait-between _ (at-if1 .before .before .pre .0))
+    let count = c .before .before in
+    let still = count .before in
+    let read = still .before .before in
+    let read-2 = read .before .before in
+    let in-mode = read-2 .before in
+    let start = in-mode .before .before in
+    omega (arith, wait-between _ (start .pre .0))
 
 returns : tie.Need-returns
 unfolding standingTriggers standingSounds
 returns c =
-    let at-if2 = c .before .before .before in
-    let at-if1 = at-if2 .before .before .before .before .before in
-    let start = at-if1 .before .before in
+    let count = c .before .before in
+    let still = count .before in
+    let read = still .before .before in
+    let read-2 = read .before .before in
+    let in-mode = read-2 .before in
+    let start = in-mode .before .before in
     let a = start .args in
-    let counts : preOrVyl (a .mode) ≡ true = sym (at-if1 .before .pre-or-vyl .ensures) ∙ at-if1 .if1 .taken in (
+    let counts : preOrVyl (a .mode) ≡ true = sym (in-mode .before .pre-or-vyl .ensures) ∙ in-mode .if1 .taken in (
       simp (
         count-is (a .card) (a .mode) (a .reading) (a .keys) (a .held) (a .standing) counts,
-        at-if2 .if2 .taken,
+        still .if2 .taken,
         counts,
-        ← c .before .before .lesser .ensures,
+        ← count .lesser .ensures,
       ),
       omega (arith, wait-between _ (start .pre .0)),
     )
@@ -62,10 +69,12 @@ returns c =
 returns-2 : tie.Need-returns-2
 unfolding standingTriggers standingSounds
 returns-2 c =
-    let at-if1 = c .before .before .before .before .before in
-    let start = at-if1 .before .before in
+    let read = c .before .before in
+    let read-2 = read .before .before in
+    let in-mode = read-2 .before in
+    let start = in-mode .before .before in
     let a = start .args in
-    let counts : preOrVyl (a .mode) ≡ true = sym (at-if1 .before .pre-or-vyl .ensures) ∙ at-if1 .if1 .taken in
+    let counts : preOrVyl (a .mode) ≡ true = sym (in-mode .before .pre-or-vyl .ensures) ∙ in-mode .if1 .taken in
     let wait = wait-between _ (start .pre .0) in (
       simp (
         count-is (a .card) (a .mode) (a .reading) (a .keys) (a .held) (a .standing) counts,

@@ -1,3 +1,4 @@
+-- `due_ahead` meets its contract: each return by whether the prompt was given; the lead and the excess by their contracts.
 use Rattle.onetime.specs.OneTime.{dueAhead}
 use borrow.Author.Tests.{eq-eqb, ne-eqb}
 use borrow.Author.Needs.{needs}
@@ -15,7 +16,9 @@ exceeds-requires c κs = search needs
 
 returns : tie.Need-returns
 unfolding dueAhead
-returns c = simp (← c .exceeds .ensures, ← c .before .before .lead .ensures .0, eq-eqb _ _ (c .before .before .before .if1 .taken))
+returns c =
+    let at-lead = c .before .before in
+    simp (← c .exceeds .ensures, ← at-lead .lead .ensures .0, eq-eqb _ _ (at-lead .before .if1 .taken))
 
 returns-2 : tie.Need-returns-2
 unfolding dueAhead

@@ -1,3 +1,4 @@
+-- `due_at_start` meets its contract: each return by whether the curve begins; the lead and the excess by their contracts.
 use Rattle.onetime.specs.OneTime.{dueAtStart}
 use borrow.Author.Needs.{needs}
 use Rattle.onetime.proofs.due_at_start.Statement.{statement}
@@ -17,7 +18,9 @@ add-result c = search needs
 
 returns : tie.Need-returns
 unfolding dueAtStart
-returns c = simp (← c .before .exceeds .ensures, ← c .before .before .lead .ensures .0, c .before .before .before .if1 .taken)
+returns c =
+    let at-lead = c .before .before in
+    simp (← c .before .exceeds .ensures, ← at-lead .lead .ensures .0, at-lead .before .if1 .taken)
 
 returns-2 : tie.Need-returns-2
 unfolding dueAtStart

@@ -1,3 +1,4 @@
+-- `exceeds` meets its contract: the curve's value by the contract of `curve_value`, whose bound leaves room for the tolerance.
 use Rattle.onetime.specs.OneTime.{exceeds}
 use borrow.Author.Needs.{needs}
 use Rattle.onetime.proofs.exceeds.Statement.{statement}

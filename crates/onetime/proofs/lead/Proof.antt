@@ -1,3 +1,4 @@
+-- `lead` meets its contract: each return by its test of the set speed.
 use Rattle.onetime.specs.OneTime.{lead}
 use borrow.Author.Tests.{le-leb, lt-leb}
 use borrow.Author.Needs.{needs}

@@ -1,3 +1,4 @@
+-- `advance` meets its contract: step 1, steps 2 to 9 and steps 2 to 10, each by its own contract.
 use Rattle.rules.specs.Tick.{advance}
 use borrow.Author.Needs.{needs}
 use Rattle.rules.proofs.advance.Statement.{statement}

@@ -1,3 +1,4 @@
+-- `ceiling` meets its contract: each return by the tests of the mode that led to it.
 use Rattle.rules.specs.Permitted.{ceiling}
 use borrow.Author.Tests.{eq-eqb, ne-eqb}
 use borrow.Author.Needs.{needs}

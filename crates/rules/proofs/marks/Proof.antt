@@ -1,3 +1,4 @@
+-- `marks` meets its contract: each of the six terms by the contract of `weight`; their bounds keep the sum within a byte.
 use Rattle.rules.specs.Answer.{marks}
 use borrow.Author.Needs.{needs}
 use Rattle.rules.proofs.marks.Statement.{statement}
@@ -38,7 +39,19 @@ add-result-5 c = search needs
 
 returns : tie.Need-returns
 unfolding marks
-returns c = simp (← c .weight6 .ensures .0, ← c .before .weight5 .ensures .0, ← c .before .before .before .weight4 .ensures .0, ← c .before .before .before .before .before .weight3 .ensures .0, ← c .before .before .before .before .before .before .weight2 .ensures .0, ← c .before .before .before .before .before .before .before .before .weight .ensures .0)
+returns c =
+    let fifth = c .before in
+    let fourth = fifth .before .before in
+    let third = fourth .before .before in
+    let second = third .before in
+    simp (
+      ← c .weight6 .ensures .0,
+      ← fifth .weight5 .ensures .0,
+      ← fourth .weight4 .ensures .0,
+      ← third .weight3 .ensures .0,
+      ← second .weight2 .ensures .0,
+      ← second .before .before .weight .ensures .0,
+    )
 
 pub marks-spec : {M : Type 1} → statement M
 marks-spec =

@@ -1,3 +1,4 @@
+-- `signal_in` meets its contract: in PRE by the contract of `steps_2_to_6` with the keys that the definition has, else no step.
 use Rattle.rules.specs.Tick.{signalIn}
 use borrow.Author.Tests.{eq-eqb, ne-eqb}
 use borrow.Author.Needs.{needs}
@@ -9,7 +10,10 @@ steps-2-to-6-requires c κs = search needs
 
 returns : tie.Need-returns
 unfolding signalIn
-returns c = (simp (← c .before .before .before .before .pre .3, ← c .steps-2-to-6 .ensures .0, eq-eqb _ _ (c .before .if1 .taken)), search needs)
+returns c =
+    let in-pre = c .before in
+    let signal = in-pre .before .before in
+    (simp (← signal .before .pre .3, ← c .steps-2-to-6 .ensures .0, eq-eqb _ _ (in-pre .if1 .taken)), search needs)
 
 returns-2 : tie.Need-returns-2
 unfolding signalIn

@@ -1,3 +1,5 @@
+-- `state_next` meets its contract: the triggers, the mask and d by their contracts, all else is what steps 2 to 9 found.
+-- The ranges are a law of the definition (`state-next-ranges`).
 use Rattle.numbers.proofs.Alike.{and-so}
 use Rattle.state.specs.State.{StateRanges}
 use Rattle.rules.proofs.Keeps.{state-next-ranges}
@@ -18,11 +20,13 @@ step-10-wrongway-requires c κs = search needs
 returns : tie.Need-returns
 unfolding releasesIn heldNext wrongwayNext stateNext
 returns c =
-    let c4 = c .before .before .before .before in
-    let triggers = c4 .before .before .before in
+    let prompt = c .before .before in
+    let wrongway = prompt .before .before in
+    let mask = wrongway .before in
+    let triggers = mask .before .before in
     let given = triggers .before .pre in
     and-so StateRanges
-    (rw (c4 .step-10-wrongway .ensures .0, c4 .before .step-10-mask .ensures .0, triggers .triggers-in .ensures, given .3))
+    (rw (wrongway .step-10-wrongway .ensures .0, mask .step-10-mask .ensures .0, triggers .triggers-in .ensures, given .3))
     (state-next-ranges _ _ _ (given .0) (given .1) (given .2))
 
 pub state-next-spec : {M : Type 1} → statement M

@@ -18,9 +18,11 @@ pre-or-vyl-requires c κs = search needs
 returns : tie.Need-returns
 unfolding triggersIn
 returns c =
-    let called = c .before .before in
-    let start = called .before .before .before .before in
-    rw (c .before .pre-or-vyl .ensures, start .pre .3)
+    let called = c .before in
+    let read = called .before .before in
+    let read-2 = read .before .before in
+    let start = read-2 .before in
+    rw (called .pre-or-vyl .ensures, start .pre .3)
 
 pub triggers-in-spec : {M : Type 1} → statement M
 triggers-in-spec = tie.close (tie.spec add-t6 pre-or-vyl-requires returns)

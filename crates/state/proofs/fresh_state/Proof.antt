@@ -1,3 +1,4 @@
+-- `fresh_state` meets its contract: its signals by the contract of `no_signal`, every other field as the definition has it.
 use borrow.Author.Needs.{needs}
 use Rattle.state.proofs.fresh_state.Statement.{statement}
 use Rattle.state.proofs.fresh_state.Tie as tie

@@ -1,3 +1,4 @@
+-- `mode_now` meets its contract: each return by its test of v; both modes are in range.
 use Rattle.state.specs.Mode.{modeNow}
 use borrow.Author.Tests.{eq-eqb, ne-eqb}
 use borrow.Author.Needs.{needs}

@@ -1,3 +1,4 @@
+-- `state_in_range` meets its contract: the parts by the contracts of their tests, the other tests are those of the definition.
 use Rattle.state.specs.State.{stateInRange}
 use borrow.Author.Needs.{needs}
 use Rattle.state.proofs.state_in_range.Statement.{statement}
@@ -14,7 +15,10 @@ cyclic-in-range-requires c κs = search needs
 
 returns : tie.Need-returns
 unfolding stateInRange
-returns c = simp (← c .before .before .before .cyclic-in-range .ensures, ← c .before .before .before .before .prompt-in-range .ensures, ← c .before .before .before .before .before .signal-in-range .ensures)
+returns c =
+    let read = c .before .before in
+    let prompt = read .before .before in
+    simp (← read .before .cyclic-in-range .ensures, ← prompt .prompt-in-range .ensures, ← prompt .before .signal-in-range .ensures)
 
 pub state-in-range-spec : {M : Type 1} → statement M
 state-in-range-spec =

@@ -1,3 +1,5 @@
+-- `step_1_mode` meets its contract: each return by the tests of the mode that led to it.
+-- The ranges are a law of the definition (`step-1-mode-ranges`).
 use Rattle.numbers.proofs.Alike.{and-so}
 use Rattle.state.specs.State.{StateRanges}
 use Rattle.state.specs.Mode.{step1Mode}
@@ -13,9 +15,10 @@ mode-now-requires c κs = search needs
 returns : tie.Need-returns
 unfolding step1Mode
 returns c =
-    let mode = c .before .before .before in
+    let same = c .before in
+    let mode = same .before .before in
     and-so StateRanges
-    (simp (eq-eqb _ _ (c .if2 .taken), eq-eqb _ _ (c .before .if1 .taken), ← mode .mode-now .ensures .0))
+    (simp (eq-eqb _ _ (c .if2 .taken), eq-eqb _ _ (same .if1 .taken), ← mode .mode-now .ensures .0))
     (step-1-mode-ranges _ _ (mode .before .pre .0) (mode .before .pre .1))
 
 no-signal-requires : tie.Need-no-signal-requires
@@ -24,9 +27,10 @@ no-signal-requires c κs = search needs
 returns-2 : tie.Need-returns-2
 unfolding step1Mode
 returns-2 c =
-    let mode = c .before .before .before .before in
+    let same = c .before .before in
+    let mode = same .before .before in
     and-so StateRanges
-    (simp (← c .no-signal .ensures, ne-eqb _ _ (c .before .if2 .left), eq-eqb _ _ (c .before .before .if1 .taken), ← mode .mode-now .ensures .0))
+    (simp (← c .no-signal .ensures, ne-eqb _ _ (c .before .if2 .left), eq-eqb _ _ (same .if1 .taken), ← mode .mode-now .ensures .0))
     (step-1-mode-ranges _ _ (mode .before .pre .0) (mode .before .pre .1))
 
 fresh-state-requires : tie.Need-fresh-state-requires
@@ -35,9 +39,10 @@ fresh-state-requires c κs = search needs
 returns-3 : tie.Need-returns-3
 unfolding step1Mode
 returns-3 c =
-    let mode = c .before .before .before in
+    let same = c .before in
+    let mode = same .before .before in
     and-so StateRanges
-    (simp (c .fresh-state .ensures, ne-eqb _ _ (c .before .if1 .left), ← mode .mode-now .ensures .0))
+    (simp (c .fresh-state .ensures, ne-eqb _ _ (same .if1 .left), ← mode .mode-now .ensures .0))
     (step-1-mode-ranges _ _ (mode .before .pre .0) (mode .before .pre .1))
 
 pub step-1-mode-spec : {M : Type 1} → statement M
