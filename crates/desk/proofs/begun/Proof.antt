@@ -1,3 +1,4 @@
+-- `begun` meets its contract: the desk and the answer by the contracts of `fresh_desk` and `no_answer`.
 use borrow.Author.Needs.{needs}
 use Rattle.desk.proofs.begun.Statement.{statement}
 use Rattle.desk.proofs.begun.Tie as tie

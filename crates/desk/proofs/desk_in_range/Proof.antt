@@ -1,3 +1,4 @@
+-- `desk_in_range` meets its contract: card and state by the contracts of their tests, and the test of n is the definition's.
 use Rattle.desk.specs.Desk.{deskInRange}
 use borrow.Author.Needs.{needs}
 use Rattle.desk.proofs.desk_in_range.Statement.{statement}

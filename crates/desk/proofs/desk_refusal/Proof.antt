@@ -1,3 +1,4 @@
+-- `desk_refusal` meets its contract: each return by the tests of the range and of the journal's length that led to it.
 use Rattle.desk.specs.Calls.{deskRefusal}
 use borrow.Author.Tests.{le-ltb, lt-ltb}
 use borrow.Author.Needs.{needs}
@@ -19,11 +20,15 @@ mul-if2 c = search needs
 
 returns-2 : tie.Need-returns-2
 unfolding deskRefusal
-returns-2 c = simp (lt-ltb _ _ (c .if2 .taken), c .before .before .if1 .left, ← c .before .before .before .desk-in-range .ensures)
+returns-2 c =
+    let good = c .before .before in
+    simp (lt-ltb _ _ (c .if2 .taken), good .if1 .left, ← good .before .desk-in-range .ensures)
 
 returns-3 : tie.Need-returns-3
 unfolding deskRefusal
-returns-3 c = simp (le-ltb _ _ (c .if2 .left), c .before .before .if1 .left, ← c .before .before .before .desk-in-range .ensures)
+returns-3 c =
+    let good = c .before .before in
+    simp (le-ltb _ _ (c .if2 .left), good .if1 .left, ← good .before .desk-in-range .ensures)
 
 pub desk-refusal-spec : {M : Type 1} → statement M
 desk-refusal-spec =

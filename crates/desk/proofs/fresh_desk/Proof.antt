@@ -1,3 +1,4 @@
+-- `fresh_desk` meets its contract: its state by the contract of `fresh_state`.
 use borrow.Author.Needs.{needs}
 use Rattle.desk.proofs.fresh_desk.Statement.{statement}
 use Rattle.desk.proofs.fresh_desk.Tie as tie

@@ -1,3 +1,4 @@
+-- `no_desk` meets its contract: a fresh state with its mode set to 0 has 0 in every field.
 use borrow.Author.Needs.{needs}
 use Rattle.desk.proofs.no_desk.Statement.{statement}
 use Rattle.desk.proofs.no_desk.Tie as tie

@@ -1,3 +1,4 @@
+-- `tick_refusal_of` meets its contract: the desk's refusal comes first (`first-some`, `first-zero`), then each return by its test.
 use mathlib.Core.Path.{sym, _∙_}
 use Rattle.refusal.proofs.First.{first-zero, first-some}
 use Rattle.desk.specs.Calls.{tickRefusalOf}
@@ -24,14 +25,16 @@ cast-if2 c = search needs
 returns-2 : tie.Need-returns-2
 unfolding tickRefusalOf
 returns-2 c =
-    let none = sym (c .before .before .before .before .desk-refusal .ensures) ∙ c .before .before .before .if1 .left in
-    simp (none, first-zero, le-leb _ _ (c .if2 .taken), ← c .before .before .capacity .ensures)
+    let at-capacity = c .before .before in
+    let none = sym (at-capacity .before .before .desk-refusal .ensures) ∙ at-capacity .before .if1 .left in
+    simp (none, first-zero, le-leb _ _ (c .if2 .taken), ← at-capacity .capacity .ensures)
 
 returns-3 : tie.Need-returns-3
 unfolding tickRefusalOf
 returns-3 c =
-    let none = sym (c .before .before .before .before .desk-refusal .ensures) ∙ c .before .before .before .if1 .left in
-    simp (none, first-zero, lt-leb _ _ (c .if2 .left), ← c .before .before .capacity .ensures)
+    let at-capacity = c .before .before in
+    let none = sym (at-capacity .before .before .desk-refusal .ensures) ∙ at-capacity .before .if1 .left in
+    simp (none, first-zero, lt-leb _ _ (c .if2 .left), ← at-capacity .capacity .ensures)
 
 pub tick-refusal-of-spec : {M : Type 1} → statement M
 tick-refusal-of-spec =

@@ -1,3 +1,4 @@
+-- `line_of` meets its contract: two halves put one behind the other are put as one (`put-then`).
 use native.Mathlib.Nat.{zero-add}
 use Rattle.line.specs.Line.{lineOf}
 use Rattle.line.proofs.Put.{put, put-then}
@@ -29,7 +30,9 @@ put-four-requires-2 c κs = search needs
 returns : tie.Need-returns
 unfolding lineOf
 returns c =
-    let first = c .before .before .before .before .before .before in
+    let read = c .before .before in
+    let read-2 = read .before .before in
+    let first = read-2 .before .before in
     let p = put-then (search needs) (put (first .put-four .ensures)) (put (c .put-four2 .ensures)) in
     ((rw zero-add at (p .place), search needs), p .list)
 

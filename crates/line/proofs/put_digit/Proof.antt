@@ -1,3 +1,4 @@
+-- `put_digit` meets its contract: no byte below the weight (`put-none`), else one (`put-one`).
 use Prim.Native.Nat.{_+_, _/_, _%_}
 use denote.Ref.{now}
 use borrow.Author.Tests.{lt-ltb, le-ltb}

@@ -1,3 +1,5 @@
+-- `put_number` meets its contract: four digits, the last one and the end put one behind the other are put as one.
+-- By `put-four` and `put-then`; the line has room for all six bytes.
 use native.Mathlib.Omega.{arith}
 use Prim.Native.Nat.{_+_, _%_}
 use lib.ListN.{length-set}
@@ -44,11 +46,16 @@ returns : tie.Need-returns
 unfolding number decimal
 returns c =
     let c4 = c .before .before in
-    let c3 = c4 .before .before .before .before in
-    let c2 = c3 .before .before .before .before in
-    let c1 = c2 .before .before .before .before in
-    let a = c1 .before .before .before .args in
-    let p4 = put-four (search needs) (put (c1 .put-digit .ensures)) (put (c2 .put-digit2 .ensures)) (put (c3 .put-digit3 .ensures)) (put (c4 .put-digit4 .ensures)) in
+    let slice4 = c4 .before .before in
+    let c3 = slice4 .before .before in
+    let slice3 = c3 .before .before in
+    let c2 = slice3 .before .before in
+    let slice2 = c2 .before .before in
+    let c1 = slice2 .before .before in
+    let slice1 = c1 .before .before in
+    let a = slice1 .before .args in
+    let p4 =
+    put-four (search needs) (put (c1 .put-digit .ensures)) (put (c2 .put-digit2 .ensures)) (put (c3 .put-digit3 .ensures)) (put (c4 .put-digit4 .ensures)) in
     let p5 = put-then (search needs) p4 (put-one (c4 .put-digit4 .last .0) (c4 .put-digit4 .result) (48 + a .x % 10) (search needs)) in
     let p6 = put-then (search needs) p5 (put-one _ (c4 .put-digit4 .result + 1) (a .end) (simp length-set (search needs))) in
     ((omega (arith, p6 .place), search needs), p6 .list)

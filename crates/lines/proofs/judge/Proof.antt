@@ -38,8 +38,10 @@ returns-2 : tie.Need-returns-2 Inv-loop μ-loop
 returns-2 c =
     let at-end = c .before in
     let inside = at-end .before in
-    let head = inside .before .loop in
-    let text = inside .before .before .before .before .args .text .now in
+    let at-loop = inside .before in
+    let lent = at-loop .before .before in
+    let head = at-loop .loop in
+    let text = lent .before .args .text .now in
     let on = turn text (head .at) (at-end .line-end .result) (head .count) (head .bytes) (inside .loop-test .taken) (at-end .line-end .ensures .0) in
     sym (head .inv .2 ∙ on ∙ rw (lt-ltb _ _ (c .if2 .taken)))
 
@@ -57,26 +59,32 @@ add-if3-2 c = omega arith
 
 returns-3 : tie.Need-returns-3 Inv-loop μ-loop
 returns-3 c =
-    let at-end = c .before .before .before in
+    let at-if2 = c .before .before in
+    let at-end = at-if2 .before in
     let inside = at-end .before in
-    let head = inside .before .loop in
-    let text = inside .before .before .before .before .args .text .now in
+    let at-loop = inside .before in
+    let lent = at-loop .before .before in
+    let head = at-loop .loop in
+    let text = lent .before .args .text .now in
     let on = turn text (head .at) (at-end .line-end .result) (head .count) (head .bytes) (inside .loop-test .taken) (at-end .line-end .ensures .0) in
     let over = rw (c .before .header-width .ensures) at (c .if3 .taken) in
-    sym (head .inv .2 ∙ on ∙ rw (le-ltb _ _ (c .before .before .if2 .left), lt-ltb _ _ over))
+    sym (head .inv .2 ∙ on ∙ rw (le-ltb _ _ (at-if2 .if2 .left), lt-ltb _ _ over))
 
 is-utf8-requires : tie.Need-is-utf8-requires Inv-loop μ-loop
 is-utf8-requires c κs = search needs
 
 returns-4 : tie.Need-returns-4 Inv-loop μ-loop
 returns-4 c =
-    let at-end = c .before .before .before .before .before in
+    let at-if3 = c .before .before in
+    let at-width = at-if3 .before in
+    let at-end = at-width .before .before in
     let inside = at-end .before in
-    let head = inside .before .loop in
-    let text = inside .before .before .before .before .args .text .now in
+    let at-loop = inside .before in
+    let lent = at-loop .before .before in
+    let head = at-loop .loop in
+    let text = lent .before .args .text .now in
     let on = turn text (head .at) (at-end .line-end .result) (head .count) (head .bytes) (inside .loop-test .taken) (at-end .line-end .ensures .0) in
-    let at-width = c .before .before .before in
-    let fits = rw (at-width .header-width .ensures) at (c .before .before .if3 .left) in
+    let fits = rw (at-width .header-width .ensures) at (at-if3 .if3 .left) in
     let bad = sym (decided (utf8? _) _ (c .before .is-utf8 .ensures)) ∙ not-true _ (c .if4 .taken) in
     sym (head .inv .2 ∙ on ∙ rw (le-ltb _ _ (at-width .before .if2 .left), le-ltb _ _ fits, bad))
 
@@ -94,13 +102,16 @@ loop-less c = omega arith
 
 loop-again : tie.Need-loop-again Inv-loop μ-loop
 loop-again c =
-    let at-end = c .before .before .before .before .before in
+    let at-if3 = c .before .before in
+    let at-width = at-if3 .before in
+    let at-end = at-width .before .before in
     let inside = at-end .before in
-    let head = inside .before .loop in
-    let text = inside .before .before .before .before .args .text .now in
+    let at-loop = inside .before in
+    let lent = at-loop .before .before in
+    let head = at-loop .loop in
+    let text = lent .before .args .text .now in
     let on = turn text (head .at) (at-end .line-end .result) (head .count) (head .bytes) (inside .loop-test .taken) (at-end .line-end .ensures .0) in
-    let at-width = c .before .before .before in
-    let fits = rw (at-width .header-width .ensures) at (c .before .before .if3 .left) in
+    let fits = rw (at-width .header-width .ensures) at (at-if3 .if3 .left) in
     let good = sym (decided (utf8? _) _ (c .before .is-utf8 .ensures)) ∙ not-false _ (c .if4 .left) in
     (at-width .before .if2 .left, omega arith, head .inv .2 ∙ on ∙ rw (le-ltb _ _ (at-width .before .if2 .left), le-ltb _ _ fits, good))
 
@@ -112,8 +123,10 @@ add-t19 c = omega arith
 
 returns-5 : tie.Need-returns-5 Inv-loop μ-loop
 returns-5 c =
-    let at-args = c .before .before .before .before .before .args in
-    let head = c .before .before .loop in
+    let at-loop = c .before .before in
+    let lent = at-loop .before .before in
+    let at-args = lent .before .args in
+    let head = at-loop .loop in
     let text = at-args .text .now in
     rw (c .header-width2 .ensures) (sym (head .inv .2 ∙ ended text (head .at) (head .count) (head .bytes) (c .before .loop-test .left)))
 

@@ -30,7 +30,8 @@ put-table-requires c κs =
 
 returns-2 : tie.Need-returns-2
 returns-2 c =
-    let made = c .before .before .before in
+    let known = c .before .before in
+    let made = known .before in
     let judged = made .before .before .judge .ensures in
     let all = bytes-table _ _ _ (sym judged ∙ made .made .given .1) in
     (sym (made .made .given .1) ∙ judged, c .put-table .ensures ∙ sym (ap (written _ 0) all))

@@ -33,16 +33,18 @@ shared-slice-read-table c = omega arith
 
 slice-write-table : tie.Need-slice-write-table Inv-loop μ-loop
 slice-write-table c =
-    let inside = c .before .before .before in
+    let at-if1 = c .before in
+    let inside = at-if1 .before .before in
     let text = inside .before .before .args .text .now in
-    let more = ap length (bytes-more text (inside .before .loop .at) (inside .loop-test .taken) (c .before .if1 .taken)) in
+    let more = ap length (bytes-more text (inside .before .loop .at) (inside .loop-test .taken) (at-if1 .if1 .taken)) in
     omega arith
 
 add-to : tie.Need-add-to Inv-loop μ-loop
 add-to c =
-    let inside = c .before .before .before in
+    let at-if1 = c .before in
+    let inside = at-if1 .before .before in
     let text = inside .before .before .args .text .now in
-    let more = ap length (bytes-more text (inside .before .loop .at) (inside .loop-test .taken) (c .before .if1 .taken)) in
+    let more = ap length (bytes-more text (inside .before .loop .at) (inside .loop-test .taken) (at-if1 .if1 .taken)) in
     omega arith
 
 add-at : tie.Need-add-at Inv-loop μ-loop

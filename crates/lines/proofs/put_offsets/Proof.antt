@@ -32,8 +32,10 @@ cast-put-u16 c = omega arith
 
 put-u16-requires : tie.Need-put-u16-requires Inv-loop μ-loop
 put-u16-requires c κs =
-    let at-args = c .before .before .before .before .before .args in
-    let head = c .before .before .loop in
+    let at-loop = c .before .before in
+    let lent = at-loop .before .before in
+    let at-args = lent .before .args in
+    let head = at-loop .loop in
     let text = at-args .text .now in
     let room = offsets-some (lines (drop (head .at) text)) (head .offset) in
     omega arith
@@ -58,10 +60,13 @@ loop-less c = omega arith
 
 loop-again : tie.Need-loop-again Inv-loop μ-loop
 loop-again c =
-    let put = c .before .before .before in
+    let at-table = c .before .before in
+    let put = at-table .before in
     let inside = put .before .before in
-    let head = inside .before .loop in
-    let text = inside .before .before .before .before .args .text .now in
+    let at-loop = inside .before in
+    let lent = at-loop .before .before in
+    let head = at-loop .loop in
+    let text = lent .before .args .text .now in
     let end = c .line-end .result in
     let on = offsets-turn text (head .at) end (inside .loop-test .taken) (c .line-end .ensures .0) (head .offset) in
     let bytes = bytes-turn text (head .at) end (inside .loop-test .taken) (c .line-end .ensures .0) in
@@ -81,8 +86,10 @@ cast-put-u16-2 c = omega arith
 
 put-u16-requires-2 : tie.Need-put-u16-requires-2 Inv-loop μ-loop
 put-u16-requires-2 c κs =
-    let at-args = c .before .before .before .before .before .args in
-    let head = c .before .before .loop in
+    let at-loop = c .before .before in
+    let lent = at-loop .before .before in
+    let at-args = lent .before .args in
+    let head = at-loop .loop in
     let text = at-args .text .now in
     let room = offsets-some (lines (drop (head .at) text)) (head .offset) in
     omega arith
@@ -90,15 +97,19 @@ put-u16-requires-2 c κs =
 same-length : tie.Need-same-length Inv-loop μ-loop
 same-length c =
     let put = c .before .before in
-    let head = put .before .before .before in
+    let at-loop-test = put .before .before in
+    let head = at-loop-test .before in
     put .put-u162 .kept .0 ∙ head .loop .inv .0
 
 returns : tie.Need-returns Inv-loop μ-loop
 returns c =
     let put = c .before .before in
-    let head = put .before .before .before .loop in
-    let text = put .before .before .before .before .before .before .args .text .now in
-    let last = offsets-past text (head .at) (head .offset) (put .before .before .loop-test .left) in
+    let at-loop-test = put .before .before in
+    let at-loop = at-loop-test .before in
+    let lent = at-loop .before .before in
+    let head = at-loop .loop in
+    let text = lent .before .args .text .now in
+    let last = offsets-past text (head .at) (head .offset) (at-loop-test .loop-test .left) in
     put .put-u162 .ensures ∙ sym (ap (written (head .table) (head .place)) last) ∙ head .inv .3
 
 pub put-offsets-spec : {M : Type 1} → statement M

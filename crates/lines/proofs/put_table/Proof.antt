@@ -17,9 +17,11 @@ put-u16-requires c κs = search needs
 
 put-offsets-requires : tie.Need-put-offsets-requires
 put-offsets-requires c κs =
-    let put = c .before .before .before in
+    let at-table = c .before .before in
+    let put = at-table .before in
     let width = put .before .before in
-    let start = width .before .before .before in
+    let lent = width .before .before in
+    let start = lent .before in
     let text = start .args .text .now in
     let long = offsets-length (lines text) (width .header-width .result) in
     omega (arith, width .header-width .ensures, put .put-u16 .kept .0, start .pre)
@@ -33,10 +35,13 @@ same-length c = search needs
 returns : tie.Need-returns
 returns c =
     let last = c .before .before in
-    let middle = last .before .before .before .before in
-    let put = middle .before .before .before .before in
+    let slice3 = last .before .before in
+    let middle = slice3 .before .before in
+    let slice2 = middle .before .before in
+    let put = slice2 .before .before in
     let width = put .before .before in
-    let start = width .before .before .before in
+    let lent = width .before .before in
+    let start = lent .before in
     let header = width .header-width .ensures in
     table-written _ _ _ _ _ _ _ (start .pre) header (put .put-u16 .ensures) (middle .put-offsets .ensures) (last .put-messages .ensures)
 

@@ -28,8 +28,9 @@ header-width-requires c κs = search needs
 returns : tie.Need-returns
 unfolding headerGood
 returns c =
-    let count = c .before .before .before .count in
-    simp (← c .header-width .ensures, ← c .before .offset2 .ensures, ← c .before .before .offset .ensures, ← count .ensures)
+    let at-offset = c .before .before in
+    let count = at-offset .before .count in
+    simp (← c .header-width .ensures, ← c .before .offset2 .ensures, ← at-offset .offset .ensures, ← count .ensures)
 
 pub header-good-spec : {M : Type 1} → statement M
 header-good-spec =

@@ -30,9 +30,10 @@ is-utf8-requires c κs = search needs
 returns : tie.Need-returns
 unfolding messageGood
 returns c =
-    let start = c .before .before .offset .ensures in
+    let at-offset = c .before .before in
+    let start = at-offset .offset .ensures in
     let end = c .before .offset2 .ensures in
-    let given = c .before .before .before .before .args in
+    let given = at-offset .before .before .args in
     let well-formed = decided (utf8? (message (given .table .now) (given .i))) _ (rw (start, end) at (c .is-utf8 .ensures)) in
     ap₂ _&&_ (ap₂ leb start end) well-formed
 

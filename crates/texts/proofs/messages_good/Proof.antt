@@ -41,8 +41,9 @@ loop-again c =
 
 returns-2 : tie.Need-returns-2 Inv-loop μ-loop
 returns-2 c =
-    let at-args = c .before .before .before .args in
-    let head = c .before .loop in
+    let at-loop = c .before in
+    let at-args = at-loop .before .before .args in
+    let head = at-loop .loop in
     let all : head .i ≡ at-args .count = omega arith in
     sym (rw all at (head .inv .1))
 

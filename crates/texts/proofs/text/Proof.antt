@@ -30,11 +30,14 @@ part-result-end c = rw (c .before .before .place-in .ensures) (answer _ _ _ .mos
 
 returns : tie.Need-returns
 returns c =
-    let place = c .before .before .before in
-    let table = place .before .chosen .result in
-    let given = place .before .before .before .before .args in
+    let read = c .before .before in
+    let place = read .before in
+    let at-chosen = place .before in
+    let lent = at-chosen .before .before in
+    let table = at-chosen .chosen .result in
+    let given = lent .before .args in
     let there = textPlace (table .now) (given .language) (given .number) in
-    rw (place .place-in .ensures, ← place .before .chosen .ensures) (cut-slice (table .now) (there .start) (there .end), (refl, refl))
+    rw (place .place-in .ensures, ← at-chosen .chosen .ensures) (cut-slice (table .now) (there .start) (there .end), (refl, refl))
 
 pub text-spec : {M : Type 1} → statement M
 text-spec =

@@ -41,8 +41,9 @@ loop-again : tie.Need-loop-again Inv-loop μ-loop
 loop-again c =
     let test = c .before in
     let inside = test .before .before in
-    let head = inside .before .loop in
-    let bytes = inside .before .before .before .args .bytes .now in
+    let at-loop = inside .before in
+    let head = at-loop .loop in
+    let bytes = at-loop .before .before .args .bytes .now in
     let next = next-counted bytes (head .at) (inside .loop-test .taken) in
     ⊎-elim
     (λ w. let e = rw (sym (test .is-trailing .ensures) ∙ not-true _ (w .0 .taken)) at next in omega arith)
@@ -51,8 +52,9 @@ loop-again c =
 
 returns : tie.Need-returns Inv-loop μ-loop
 returns c =
-    let head = c .before .loop in
-    let none = none-counted (c .before .before .before .args .bytes .now) (head .at) (c .loop-test .left) in
+    let at-loop = c .before in
+    let head = at-loop .loop in
+    let none = none-counted (at-loop .before .before .args .bytes .now) (head .at) (c .loop-test .left) in
     omega arith
 
 pub characters-spec : {M : Type 1} → statement M

@@ -51,8 +51,10 @@ loop-again c =
 
 returns-2 : tie.Need-returns-2 Inv-loop μ-loop
 returns-2 c =
-    let end = none-left (c .before .before .before .before .args .bytes .now) (c .before .loop .at) _ (c .loop-test .left) in
-    (λ e. c .before .loop .inv .1 (rw end utf8-nil), λ u. refl)
+    let at-loop = c .before in
+    let lent = at-loop .before .before in
+    let end = none-left (lent .before .args .bytes .now) (at-loop .loop .at) _ (c .loop-test .left) in
+    (λ e. at-loop .loop .inv .1 (rw end utf8-nil), λ u. refl)
 
 pub is-utf8-spec : {M : Type 1} → statement M
 is-utf8-spec =

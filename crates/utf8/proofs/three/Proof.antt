@@ -25,9 +25,10 @@ is-trailing-requires c κs = search needs
 returns : tie.Need-returns
 unfolding three
 returns c =
-    let at-row2 = c .before .before .before .row2 in
-    let at-row = c .before .before .before .before .row in
-    simp (← c .is-trailing .ensures, ← c .before .row4 .ensures, ← c .before .before .row3 .ensures, ← at-row2 .ensures, ← at-row .ensures)
+    let at-row3 = c .before .before in
+    let at-row2 = at-row3 .before .row2 in
+    let at-row = at-row3 .before .before .row in
+    simp (← c .is-trailing .ensures, ← c .before .row4 .ensures, ← at-row3 .row3 .ensures, ← at-row2 .ensures, ← at-row .ensures)
     (ap (λ (any : Bool). any && c .is-trailing .result) (any-of-four _ _ _ _))
 
 pub three-spec : {M : Type 1} → statement M

@@ -1,3 +1,4 @@
+-- `Desk::open` meets its contract: each return by whether the card is in range.
 use Rattle.desk.specs.Calls.{openOutcome}
 use borrow.Author.Needs.{needs}
 use Rattle.desk.proofs.Desk.open.Statement.{statement}
@@ -14,7 +15,9 @@ refused-requires c κs = search needs
 
 returns : tie.Need-returns
 unfolding openOutcome
-returns c = simp (← c .refused .ensures, ← c .before .no-desk .ensures, c .before .before .if1 .taken, ← c .before .before .before .card-in-range .ensures)
+returns c =
+    let bad = c .before .before in
+    simp (← c .refused .ensures, ← c .before .no-desk .ensures, bad .if1 .taken, ← bad .before .card-in-range .ensures)
 
 begun-requires : tie.Need-begun-requires
 begun-requires c κs = search needs

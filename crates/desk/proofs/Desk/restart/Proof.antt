@@ -1,3 +1,4 @@
+-- `Desk::restart` meets its contract: each return by whether the desk is in range.
 use Rattle.desk.specs.Calls.{restartOutcome}
 use borrow.Author.Needs.{needs}
 use Rattle.desk.proofs.Desk.restart.Statement.{statement}

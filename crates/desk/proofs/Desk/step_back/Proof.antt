@@ -1,3 +1,5 @@
+-- `Desk::step_back` meets its contract: each return by the number of `back_refusal`.
+-- A number of 0 says all that `rebuilt` asks for (`back-taken`).
 use mathlib.Core.Path.{sym, _∙_}
 use Rattle.desk.proofs.Calls.{back-taken, desk-ranges}
 use Rattle.desk.specs.Calls.{backOutcome}
@@ -25,14 +27,18 @@ cast-m c =
     omega arith
 
 sub-m : tie.Need-sub-m
-sub-m c = let t = back-taken _ _ _ (sym (c .before .before .before .back-refusal .ensures) ∙ c .before .before .if1 .left) in t .few
+sub-m c =
+    let passed = c .before .before in
+    let t = back-taken _ _ _ (sym (passed .before .back-refusal .ensures) ∙ passed .if1 .left) in
+    t .few
 
 cast-rebuilt : tie.Need-cast-rebuilt
 cast-rebuilt c = search needs
 
 rebuilt-requires : tie.Need-rebuilt-requires
 rebuilt-requires c κs =
-    let t = back-taken _ _ _ (sym (c .before .before .before .back-refusal .ensures) ∙ c .before .before .if1 .left) in
+    let passed = c .before .before in
+    let t = back-taken _ _ _ (sym (passed .before .back-refusal .ensures) ∙ passed .if1 .left) in
     let long = t .desk .long in
     (desk-ranges _ (t .desk .desk-good) .card, (omega arith, t .good))
 
@@ -41,7 +47,15 @@ gone-back-requires c κs = search needs
 
 returns-2 : tie.Need-returns-2
 unfolding backOutcome
-returns-2 c = simp (← c .gone-back .ensures, ← c .before .rebuilt .ensures, eq-eqb _ _ (c .before .before .before .before .if1 .left), ← c .before .before .before .before .before .back-refusal .ensures)
+returns-2 c =
+    let at-rebuilt = c .before in
+    let card = at-rebuilt .before .before in
+    simp (
+      ← c .gone-back .ensures,
+      ← at-rebuilt .rebuilt .ensures,
+      eq-eqb _ _ (card .before .if1 .left),
+      ← card .before .before .back-refusal .ensures,
+    )
 
 pub step-back-spec : {M : Type 1} → statement M
 step-back-spec =
