@@ -1,3 +1,4 @@
+-- `foldharbor_run_exercise` meets its contract: the outcome and the buffer by the contract of `run`, each return by its refusal.
 use Rattle.host.specs.Host.{hostNumber}
 use borrow.Author.Tests.{eq-eqb, ne-eqb}
 use borrow.Author.Needs.{needs}
@@ -19,8 +20,10 @@ same-length c = search needs
 returns : tie.Need-returns
 unfolding hostNumber
 returns c =
-    let run = c .before .before .before .before .before .run .ensures in
-    (simp (← run .0, ne-eqb _ _ (c .before .if1 .taken)), run .1)
+    let told = c .before in
+    let slice = told .before .before in
+    let run = slice .before .before .run .ensures in
+    (simp (← run .0, ne-eqb _ _ (told .if1 .taken)), run .1)
 
 cast-result-2 : tie.Need-cast-result-2
 cast-result-2 c = search needs
@@ -31,8 +34,10 @@ same-length-2 c = search needs
 returns-2 : tie.Need-returns-2
 unfolding hostNumber
 returns-2 c =
-    let run = c .before .before .before .before .before .run .ensures in
-    (simp (← run .0, eq-eqb _ _ (c .before .if1 .left)), run .1)
+    let told = c .before in
+    let slice = told .before .before in
+    let run = slice .before .before .run .ensures in
+    (simp (← run .0, eq-eqb _ _ (told .if1 .left)), run .1)
 
 pub foldharbor-run-exercise-spec : {M : Type 1} → statement M
 foldharbor-run-exercise-spec =

@@ -47,7 +47,12 @@ same-length-2 c = search needs
 
 returns-2 : tie.Need-returns-2 Inv-loop μ-loop
 returns-2 c =
-    let head = c .before .before .before .before .before .before .before .before .before .before .before .before .loop in
+    let part5 = c .before .before in
+    let part4 = part5 .before .before in
+    let slice = part4 .before .before in
+    let read = slice .before .before in
+    let part = read .before .before in
+    let head = part .before .before .loop in
     rw (toZ-pos w64 {n = head .n} (search needs)) (omega arith)
 
 add-n : tie.Need-add-n Inv-loop μ-loop
