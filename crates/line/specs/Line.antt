@@ -12,16 +12,17 @@ space = 32
 abbrev pub lineEnd : ℕ
 lineEnd = 10
 
-abbrev pub zero : ℕ
-zero = 48
+-- the digit 0; the others follow it
+abbrev pub digitZero : ℕ
+digitZero = 48
 
 -- the digit of x at a weight: where x is below the weight there is none, so that no 0 leads
 unfoldable pub digitAt : ℕ → ℕ → List ℕ
-digitAt x weight = cond (ltb x weight) [] ((zero + x / weight % 10) ∷ [])
+digitAt x weight = cond (ltb x weight) [] ((digitZero + x / weight % 10) ∷ [])
 
 -- x in decimal; a u16 has at most five digits
 unfoldable pub decimal : ℕ → List ℕ
-decimal x = digitAt x 10000 ++ digitAt x 1000 ++ digitAt x 100 ++ digitAt x 10 ++ ((zero + x % 10) ∷ [])
+decimal x = digitAt x 10000 ++ digitAt x 1000 ++ digitAt x 100 ++ digitAt x 10 ++ ((digitZero + x % 10) ∷ [])
 
 -- the most bytes of a number: five digits and what stands behind them
 abbrev pub numberMost : ℕ

@@ -17,6 +17,9 @@ const SPACE: u8 = 32;
 
 const LINE_END: u8 = 10;
 
+// The digit 0; the others follow it.
+const DIGIT_ZERO: u8 = 48;
+
 // Writes the digit of x at a weight, where there is one; answers the place after it.
 fn put_digit(out: &mut [u8], at: usize, x: u16, weight: u16) -> usize
     requires { ⌜ (at < length (now out)) × (0 < weight) ⌝ }
@@ -26,7 +29,7 @@ fn put_digit(out: &mut [u8], at: usize, x: u16, weight: u16) -> usize
     if x < weight {
         return at;
     }
-    out[at] = 48 + (x / weight % 10) as u8;
+    out[at] = DIGIT_ZERO + (x / weight % 10) as u8;
     at + 1
 }
 
@@ -40,7 +43,7 @@ fn put_number(out: &mut [u8], at: usize, x: u16, end: u8) -> usize
     let b = put_digit(out, a, x, 1000);
     let c = put_digit(out, b, x, 100);
     let d = put_digit(out, c, x, 10);
-    out[d] = 48 + (x % 10) as u8;
+    out[d] = DIGIT_ZERO + (x % 10) as u8;
     out[d + 1] = end;
     d + 2
 }
