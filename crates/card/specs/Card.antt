@@ -3,10 +3,10 @@ use Prim.Native.Nat.{ℕ, _+_, _≤_}
 use mathlib.Core.Path.{_≡_}
 use mathlib.Core.Bool.{Bool, _&&_, _||_}
 use mathlib.Core.Logic.{_⊎_}
-use mathlib.Core.List.{List}
+use mathlib.Core.List.{List, [], _∷_, flatMap}
 use lib.Dec.{leb, ltb, eqb}
 use Rattle.reading.specs.Speed.{topSpeed}
-use Rattle.layout.specs.Layout.{u16At}
+use Rattle.layout.specs.Layout.{u16At, u16Bytes, put}
 use Rattle.card.specs.declared.Card.{Card}
 
 -- the bounds other than topSpeed
@@ -38,41 +38,41 @@ shortWait = 250
 abbrev pub longWait : ℕ
 longWait = 1000
 
-pub record CardRanges (c : Card) : Type 0 where
-  pub design-least : leastSpeed ≤ c .design
-  pub design-most : c .design ≤ topSpeed
-  pub set-least : leastSpeed ≤ c .set
-  pub set-most : c .set ≤ topSpeed
-  pub highest-least : leastSpeed ≤ c .highest
-  pub highest-most : c .highest ≤ topSpeed
-  pub pos-least : leastSpeed ≤ c .pos
-  pub pos-most : c .pos ≤ topSpeed
-  pub zav-least : leastSpeed ≤ c .zav
-  pub zav-most : c .zav ≤ topSpeed
-  pub tolerance-most : c .tolerance ≤ mostTolerance
-  pub stop-most : c .stop ≤ mostStop
-  pub deceleration-least : leastDeceleration ≤ c .deceleration
-  pub deceleration-most : c .deceleration ≤ mostDeceleration
-  pub cycle-least : leastCycle ≤ c .cycle
-  pub cycle-most : c .cycle ≤ mostCycle
-  pub wait-either : (c .wait ≡ shortWait) ⊎ (c .wait ≡ longWait)
+pub record CardRanges (card : Card) : Type 0 where
+  pub design-least : leastSpeed ≤ card .design
+  pub design-most : card .design ≤ topSpeed
+  pub set-least : leastSpeed ≤ card .set
+  pub set-most : card .set ≤ topSpeed
+  pub highest-least : leastSpeed ≤ card .highest
+  pub highest-most : card .highest ≤ topSpeed
+  pub pos-least : leastSpeed ≤ card .pos
+  pub pos-most : card .pos ≤ topSpeed
+  pub zav-least : leastSpeed ≤ card .zav
+  pub zav-most : card .zav ≤ topSpeed
+  pub tolerance-most : card .tolerance ≤ mostTolerance
+  pub stop-most : card .stop ≤ mostStop
+  pub deceleration-least : leastDeceleration ≤ card .deceleration
+  pub deceleration-most : card .deceleration ≤ mostDeceleration
+  pub cycle-least : leastCycle ≤ card .cycle
+  pub cycle-most : card .cycle ≤ mostCycle
+  pub wait-either : (card .wait ≡ shortWait) ⊎ (card .wait ≡ longWait)
 
 unfoldable pub cardInRange : Card → Bool
-cardInRange c =
-    leb leastSpeed (c .design) && leb (c .design) topSpeed
-    && leb leastSpeed (c .set) && leb (c .set) topSpeed
-    && leb leastSpeed (c .highest) && leb (c .highest) topSpeed
-    && leb leastSpeed (c .pos) && leb (c .pos) topSpeed
-    && leb leastSpeed (c .zav) && leb (c .zav) topSpeed
-    && leb (c .tolerance) mostTolerance
-    && leb (c .stop) mostStop
-    && leb leastDeceleration (c .deceleration) && leb (c .deceleration) mostDeceleration
-    && leb leastCycle (c .cycle) && leb (c .cycle) mostCycle
-    && (eqb (c .wait) shortWait || eqb (c .wait) longWait)
+cardInRange card =
+    leb leastSpeed (card .design) && leb (card .design) topSpeed
+    && leb leastSpeed (card .set) && leb (card .set) topSpeed
+    && leb leastSpeed (card .highest) && leb (card .highest) topSpeed
+    && leb leastSpeed (card .pos) && leb (card .pos) topSpeed
+    && leb leastSpeed (card .zav) && leb (card .zav) topSpeed
+    && leb (card .tolerance) mostTolerance
+    && leb (card .stop) mostStop
+    && leb leastDeceleration (card .deceleration) && leb (card .deceleration) mostDeceleration
+    && leb leastCycle (card .cycle) && leb (card .cycle) mostCycle
+    && (eqb (card .wait) shortWait || eqb (card .wait) longWait)
 
 -- v exceeds a speed by more than the card's tolerance
 abbrev pub beyond : Card → ℕ → ℕ → Bool
-beyond c speed v = ltb (speed + c .tolerance) v
+beyond card speed v = ltb (speed + card .tolerance) v
 
 -- a card of zeros, which is out of range
 abbrev pub noCard : Card
@@ -93,7 +93,13 @@ noCard = record {
 abbrev pub cardWidth : ℕ
 cardWidth = 20
 
--- the ten u16 from a place, in the paper's order
+-- ten u16 in the paper's order
+abbrev pub cardBytes : Card → List ℕ
+cardBytes card =
+    flatMap u16Bytes
+    (card .design ∷ card .set ∷ card .highest ∷ card .pos ∷ card .zav
+    ∷ card .tolerance ∷ card .stop ∷ card .deceleration ∷ card .cycle ∷ card .wait ∷ [])
+
 unfoldable pub cardAt : List ℕ → ℕ → Card
 cardAt bytes at =
     record {
@@ -108,3 +114,7 @@ cardAt bytes at =
       cycle = u16At bytes (at + 16);
       wait = u16At bytes (at + 18);
     }
+
+-- where the bytes do not fit, nothing is written
+unfoldable pub putCard : List ℕ → ℕ → Card → List ℕ
+putCard bytes at card = put bytes at (cardBytes card)

@@ -1,7 +1,9 @@
 // The card: what the train is, as the school sets it.
 ghost use mathlib.Core.Path.{_≡_};
-ghost use Rattle.card.specs.Card.{cardInRange, cardAt};
-use layout::u16_at;
+ghost use Prim.Native.Nat.{_+_, _≤_};
+ghost use lib.ListN.{length};
+ghost use Rattle.card.specs.Card.{cardInRange, cardWidth, cardAt, putCard};
+use layout::u16_within;
 use reading::TOP_SPEED;
 
 // Speeds in tenths of km/h, times in ticks of 0.1 s.
@@ -31,42 +33,64 @@ const SHORT_WAIT: u16 = 250;
 
 pub const LONG_WAIT: u16 = 1000;
 
-pub fn card_in_range(c: Card) -> bool
-    ensures { λ r. ⌜ r ≡ cardInRange c ⌝ }
+pub fn card_in_range(card: Card) -> bool
+    ensures { λ r. ⌜ r ≡ cardInRange card ⌝ }
 {
-    (1 <= c.design)
-        & (c.design <= TOP_SPEED)
-        & (1 <= c.set)
-        & (c.set <= TOP_SPEED)
-        & (1 <= c.highest)
-        & (c.highest <= TOP_SPEED)
-        & (1 <= c.pos)
-        & (c.pos <= TOP_SPEED)
-        & (1 <= c.zav)
-        & (c.zav <= TOP_SPEED)
-        & (c.tolerance <= 100)
-        & (c.stop <= 400)
-        & (5 <= c.deceleration)
-        & (c.deceleration <= 40)
-        & (150 <= c.cycle)
-        & (c.cycle <= 600)
-        & ((c.wait == SHORT_WAIT) | (c.wait == LONG_WAIT))
+    (1 <= card.design)
+        & (card.design <= TOP_SPEED)
+        & (1 <= card.set)
+        & (card.set <= TOP_SPEED)
+        & (1 <= card.highest)
+        & (card.highest <= TOP_SPEED)
+        & (1 <= card.pos)
+        & (card.pos <= TOP_SPEED)
+        & (1 <= card.zav)
+        & (card.zav <= TOP_SPEED)
+        & (card.tolerance <= 100)
+        & (card.stop <= 400)
+        & (5 <= card.deceleration)
+        & (card.deceleration <= 40)
+        & (150 <= card.cycle)
+        & (card.cycle <= 600)
+        & ((card.wait == SHORT_WAIT) | (card.wait == LONG_WAIT))
 }
 
 // The card in the 20 bytes from `at`.
 pub fn card_at(bytes: &[u8], at: usize) -> Card
+    requires { ⌜ at + cardWidth ≤ length (now bytes) ⌝ }
     ensures { λ r. ⌜ r ≡ cardAt (now (bytes .entry)) at ⌝ }
 {
     Card {
-        design: u16_at(bytes, at, 0),
-        set: u16_at(bytes, at, 2),
-        highest: u16_at(bytes, at, 4),
-        pos: u16_at(bytes, at, 6),
-        zav: u16_at(bytes, at, 8),
-        tolerance: u16_at(bytes, at, 10),
-        stop: u16_at(bytes, at, 12),
-        deceleration: u16_at(bytes, at, 14),
-        cycle: u16_at(bytes, at, 16),
-        wait: u16_at(bytes, at, 18),
+        design: u16_within(bytes, at),
+        set: u16_within(bytes, at + 2),
+        highest: u16_within(bytes, at + 4),
+        pos: u16_within(bytes, at + 6),
+        zav: u16_within(bytes, at + 8),
+        tolerance: u16_within(bytes, at + 10),
+        stop: u16_within(bytes, at + 12),
+        deceleration: u16_within(bytes, at + 14),
+        cycle: u16_within(bytes, at + 16),
+        wait: u16_within(bytes, at + 18),
+    }
+}
+
+// Writes the card's 20 bytes from `at`; where they do not fit, nothing.
+pub fn put_card(bytes: &mut [u8], at: usize, card: Card)
+    ensures { λ _. ⌜ now (bytes .exit) ≡ putCard (now (bytes .entry)) at card ⌝ }
+{
+    let fields = [
+        card.design,
+        card.set,
+        card.highest,
+        card.pos,
+        card.zav,
+        card.tolerance,
+        card.stop,
+        card.deceleration,
+        card.cycle,
+        card.wait,
+    ];
+    if layout::fits(bytes.len(), at, CARD_WIDTH) {
+        layout::put_u16s(bytes, at, &fields);
     }
 }

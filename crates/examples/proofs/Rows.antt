@@ -17,7 +17,8 @@ use Rattle.signal.specs.Man.{step4Man}
 use Rattle.signal.specs.Curve.{ageNow, curveHolds, manStarts, curveAged, manStarted}
 use Rattle.signal.specs.Steps.{steps2To6}
 use Rattle.cyclic.specs.Cyclic.{asksIncreased, asksOrdinary, cyclicKind, cycleLength, cyclicLapses, cyclicTicks, cyclicPrompts}
-use Rattle.onetime.specs.OneTime.{lead, exceeds, promptLapses, promptStays, dueAhead, dueAtStart, asksAhead, asksAtStart, promptTicksNext, promptKindNext, promptedNext}
+use Rattle.onetime.specs.OneTime.{lead, exceeds, promptLapses, promptStays, dueAhead}
+use Rattle.onetime.specs.OneTime.{dueAtStart, asksAhead, asksAtStart, promptTicksNext, promptKindNext, promptedNext}
 use Rattle.causes.specs.Held.{heldIn, maskOf, ifHeld, listed, firstOr, lowest, howMany}
 use Rattle.motion.specs.Direction.{wrongwayNow, wrongwayTriggers}
 use Rattle.motion.specs.Standing.{counted, standingNow, standingTriggers, standingSounds}
@@ -25,7 +26,8 @@ use Rattle.causes.specs.Keeping.{released, step10Held, step10Wrongway}
 use Rattle.state.specs.Mode.{modeNow, step1Mode}
 use Rattle.rules.specs.Permitted.{ceiling, step6Permitted}
 use Rattle.rules.specs.Answer.{marks}
-use Rattle.rules.specs.Tick.{signalIn, permittedIn, kindIn, cyclicIn, oneTimeIn, directionIn, standingIn, triggersIn, releasesIn, heldNext, wrongwayNext, stateNext, answerNow, steps2To10, advance}
+use Rattle.rules.specs.Tick.{signalIn, permittedIn, kindIn, cyclicIn, oneTimeIn, directionIn, standingIn}
+use Rattle.rules.specs.Tick.{triggersIn, releasesIn, heldNext, wrongwayNext, stateNext, answerNow, steps2To10, advance}
 use Rattle.rules.specs.After.{after}
 use Rattle.examples.specs.Drive.{ticks, drive, taken, atEnd}
 use Rattle.examples.specs.Rows.{rows}

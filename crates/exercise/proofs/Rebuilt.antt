@@ -50,7 +50,8 @@ module _ (card : Card) (H : ℕ → Record) where
       ∙ ap (λ (c : Card). after c (records J) (d .n - back) .answer) same
       ∙ ap (λ (x : AfterTick). x .answer) (after-same card (records J) H (d .n - back) held)
 
-  pub as-rebuilt : (m j : ℕ) → j < m → (d : Desk) (back : ℕ) (J : List ℕ) → backRefusal d back J ≡ 0 → d .card ≡ card → d .n - back ≡ suc j
+  pub as-rebuilt : (m j : ℕ) → j < m → (d : Desk) (back : ℕ) (J : List ℕ) → backRefusal d back J ≡ 0 → d .card ≡ card
+      → d .n - back ≡ suc j
       → ((i : ℕ) → i < suc j → records J i ≡ H i) → answerAt (answers card H m) j ≡ answerBytes (backOutcome d back J .answer)
   as-rebuilt m j h d back J taken same k held =
       answer-at m j h

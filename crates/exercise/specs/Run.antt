@@ -13,13 +13,17 @@ use Rattle.file.specs.Read.{tickCount, drive, headRefusal}
 use Rattle.rules.specs.Answer.{answerWidth}
 use Rattle.exercise.specs.Answers.{answers}
 
--- cards count from 1; `room` is the buffer's length
+-- cards count from 1
+abbrev pub numberRefusal : List ℕ → ℕ → ℕ
+numberRefusal file card = cond (leb 1 card && leb card (cardCount file)) 0 noSuchCard
+
+-- `room` is the buffer's length
 module _ (file : List ℕ) (card room : ℕ) where
   -- 10, 4, 13 no such card, the runs' 11 and 9, 12 buffer below 8 bytes a tick
   unfoldable pub exerciseRefusal : ℕ
   exerciseRefusal =
       firstRefusal (headRefusal file)
-      (firstRefusal (cond (leb 1 card && leb card (cardCount file)) 0 noSuchCard)
+      (firstRefusal (numberRefusal file card)
       (firstRefusal (runsRefusal file (runCount file))
       (cond (ltb room (answerWidth * tickCount file)) shortBuffer 0)))
 

@@ -1,43 +1,40 @@
 // A whole exercise, run under one of its cards into a lent buffer.
 ghost use mathlib.Core.Path.{_≡_};
-ghost use Prim.Native.Nat.{_+_, _*_, _≤_};
+ghost use mathlib.Core.Bool.{true};
+ghost use Prim.Native.Nat.{_*_, _≤_};
 ghost use lib.ListN.{length};
 ghost use Rattle.layout.specs.Layout.{written};
 ghost use Rattle.card.specs.Card.{CardRanges};
-ghost use Rattle.file.specs.File.{runCount};
+ghost use Rattle.file.specs.File.{runCount, headerGood};
 ghost use Rattle.file.specs.Runs.{runsRefusal};
 ghost use Rattle.file.specs.Read.{tickCount, drive};
-ghost use Rattle.rules.specs.Answer.{answerWidth, answerBytes};
+ghost use Rattle.rules.specs.Answer.{answerWidth};
 ghost use Rattle.exercise.specs.Answers.{answers};
-ghost use Rattle.exercise.specs.Run.{exerciseOutcome, exerciseBuffer};
-use card::CARD_WIDTH;
+ghost use Rattle.exercise.specs.Run.{numberRefusal, exerciseOutcome, exerciseBuffer};
 use card::Card;
 use file::Total;
-use layout::u16_at;
-use rules::AfterTick;
+use rules::ANSWER_WIDTH;
 
-const ANSWER_WIDTH: usize = 8;
+fn number_refusal(file: &[u8], card: u32) -> u8
+    ensures { λ x. ⌜ x ≡ numberRefusal (now (file .entry)) card ⌝ }
+{
+    if (1 <= card) & (card <= file::card_count(file) as u32) {
+        0
+    } else {
+        refusal::NO_SUCH_CARD
+    }
+}
 
 // The outcome of a run into a buffer of so many bytes.
 fn exercise_outcome(file: &[u8], card: u32, room: usize) -> Total
     ensures { λ x. ⌜ x ≡ exerciseOutcome (now (file .entry)) card room ⌝ }
 {
-    let refusal = file::head_refusal(file);
+    let head = file::head_refusal(file);
+    let number = number_refusal(file, card);
+    let refusal = refusal::first_refusal(head, number);
     if refusal != 0 {
         return Total {
             refusal: refusal,
-            ticks: 0,
-        };
-    }
-    if card < 1 {
-        return Total {
-            refusal: refusal::NO_SUCH_CARD,
-            ticks: 0,
-        };
-    }
-    if (u16_at(file, 0, 0) as u32) < card {
-        return Total {
-            refusal: refusal::NO_SUCH_CARD,
             ticks: 0,
         };
     }
@@ -54,44 +51,29 @@ fn exercise_outcome(file: &[u8], card: u32, room: usize) -> Total
     runs
 }
 
-// Writes the answer of a tick in the 8 bytes from `at`.
-fn put_answer(buffer: &mut [u8], at: usize, tick: AfterTick)
-    requires { ⌜ at + answerWidth ≤ length (now buffer) ⌝ }
-    ensures { λ _. ⌜ now (buffer .exit) ≡ written (now (buffer .entry)) at (answerBytes (tick .answer)) ⌝ }
-{
-    let p = tick.answer.permitted;
-    let t = tick.answer.target;
-    layout::put_eight(
-        buffer,
-        at,
-        (p % 256) as u8,
-        (p / 256 % 256) as u8,
-        (t % 256) as u8,
-        (t / 256 % 256) as u8,
-        tick.answer.marks,
-        tick.answer.causes,
-        tick.answer.lowest,
-        tick.answer.held,
-    );
-}
-
 // Drives the runs of a file that was read, from a fresh state, and writes the answers of their ticks.
 fn answer_all(file: &[u8], card: Card, buffer: &mut [u8])
-    requires { ⌜ CardRanges card × (runsRefusal (now file) (runCount (now file)) ≡ 0) × (answerWidth * tickCount (now file) ≤ length (now buffer)) ⌝ }
+    requires { ⌜ CardRanges card ⌝ }
+    requires { ⌜ headerGood (now file) ≡ true ⌝ }
+    requires { ⌜ runsRefusal (now file) (runCount (now file)) ≡ 0 ⌝ }
+    requires { ⌜ answerWidth * tickCount (now file) ≤ length (now buffer) ⌝ }
     ensures { λ _. ⌜ now (buffer .exit) ≡ written (now (buffer .entry)) 0 (answers card (drive (now (file .entry))) (tickCount (now (file .entry)))) ⌝ }
 {
-    let runs = file::run_count(file);
-    let mut s = state::fresh_state();
+    let from = file::runs_from(file::card_count(file));
+    let runs = file::run_count(file) as usize;
+    let mut state = state::fresh_state();
     let mut i = 0;
     let mut j = 0;
     while j < runs {
-        let r = file::run_record(file, j);
-        let end = i + file::run_ticks(file, j);
+        let run = file::run_in(file, from, j);
+        let reading = run.record;
+        let end = i + (run.ticks as usize);
         while i < end {
-            let tick = rules::advance(card, s, r);
-            put_answer(buffer, ANSWER_WIDTH * i, tick);
-            let state = tick.state;
-            s = state;
+            let tick = rules::advance(card, state, reading);
+            let answer = tick.answer;
+            rules::write_answer(buffer, ANSWER_WIDTH * i, answer);
+            let next = tick.state;
+            state = next;
             i += 1;
         }
         j += 1;
@@ -107,10 +89,7 @@ pub fn run(file: &[u8], card: u32, buffer: &mut [u8]) -> Total
     if ran.refusal != 0 {
         return ran;
     }
-    let chosen = card::card_at(
-        file,
-        file::HEADER_WIDTH + CARD_WIDTH * ((card - 1) as usize),
-    );
+    let chosen = file::card_in(file, (card - 1) as usize);
     answer_all(file, chosen, buffer);
     ran
 }

@@ -1,3 +1,4 @@
+pub mod Header
 pub mod Runs
 pub mod Reader
 pub mod Determined

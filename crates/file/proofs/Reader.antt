@@ -62,10 +62,13 @@ module _ (file : List ℕ) where
   unfolding readOutcome readRefusal
   read-by-runs h k = rw (h, first-zero, ne-eqb _ _ k)
 
-  pub read-by-none : headRefusal file ≡ 0 → runs ≡ 0 → readOutcome file ≡ record { refusal = 0; cards = cardCount file; runs = runCount file; ticks = tickCount file }
+  pub read-by-none : headRefusal file ≡ 0 → runs ≡ 0
+      → readOutcome file ≡ record { refusal = 0; cards = cardCount file; runs = runCount file; ticks = tickCount file }
   unfolding readOutcome readRefusal
   read-by-none h k = rw (h, first-zero, k)
 
-  pub cards-good : headRefusal file ≡ 0 → cardsInRange file (cardCount file) ≡ true
+  pub head-good : headRefusal file ≡ 0 → (headerGood file ≡ true) × (cardsInRange file (cardCount file) ≡ true)
   unfolding headRefusal
-  cards-good h = zero-if (cardsInRange file (cardCount file)) badCard 0 (omega arith) (zero-if (headerGood file) badFile _ (omega arith) h .1) .0
+  head-good h =
+      let header = zero-if (headerGood file) badFile _ (omega arith) h in
+      (header .0, zero-if (cardsInRange file (cardCount file)) badCard 0 (omega arith) (header .1) .0)

@@ -29,7 +29,8 @@ pub fault-none : (before ticks : ℕ) (r : Record) → runFault before ticks r �
 unfolding runFault
 fault-none before ticks r h = go (eqb ticks 0 || ltb mostTicks (before + ticks)) (recordInRange r) refl refl h
   where
-    go : (a b : Bool) → (eqb ticks 0 || ltb mostTicks (before + ticks)) ≡ a → recordInRange r ≡ b → _≡_ {A = ℕ} (cond a badTicks (cond (not b) badRecord 0)) 0 → RunGood before ticks r
+    go : (a b : Bool) → (eqb ticks 0 || ltb mostTicks (before + ticks)) ≡ a → recordInRange r ≡ b
+        → _≡_ {A = ℕ} (cond a badTicks (cond (not b) badRecord 0)) 0 → RunGood before ticks r
     go true b e f z = absurd (omega arith)
     go false false e f z = absurd (omega arith)
     go false true e f z =
@@ -46,7 +47,8 @@ module _ (file : List ℕ) where
   fault j = runFault (ticksTo file j) (runTicks file j) (runRecord file j)
 
   -- the fault of a run, from what the code reads of it
-  pub fault-is : (j sum ticks : ℕ) (r : Record) → sum ≡ ticksTo file j → ticks ≡ runTicks file j → r ≡ runRecord file j → runFault sum ticks r ≡ fault j
+  pub fault-is : (j sum ticks : ℕ) (r : Record) → sum ≡ ticksTo file j → ticks ≡ runTicks file j → r ≡ runRecord file j
+      → runFault sum ticks r ≡ fault j
   fault-is j sum ticks r p q s = rw (p, q, s)
 
   pub ticks-next : (j : ℕ) → ticksTo file (j + 1) ≡ ticksTo file j + runTicks file j

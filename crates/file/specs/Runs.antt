@@ -16,8 +16,8 @@ ticksTo file (suc j) = ticksTo file j + runTicks file j
 
 -- after so many ticks: 11 a run of 0 ticks, or sum over 7,200, then 9 a record out of range
 unfoldable pub runFault : ℕ → ℕ → Record → ℕ
-runFault before ticks r =
-    cond (eqb ticks 0 || ltb mostTicks (before + ticks)) badTicks (cond (not (recordInRange r)) badRecord 0)
+runFault before ticks reading =
+    cond (eqb ticks 0 || ltb mostTicks (before + ticks)) badTicks (cond (not (recordInRange reading)) badRecord 0)
 
 -- each run in turn
 unfoldable pub runsRefusal : List ℕ → ℕ → ℕ

@@ -1,11 +1,15 @@
 // The exercise file of a school: its header, its cards, its runs, and the reader.
 ghost use mathlib.Core.Path.{_≡_};
-ghost use Prim.Native.Nat.{_≤_};
+ghost use mathlib.Core.Bool.{true};
+ghost use Prim.Native.Nat.{_+_, _*_, _≤_};
+ghost use lib.ListN.{length};
+ghost use Rattle.card.specs.Card.{cardWidth};
 ghost use Rattle.record.specs.Times.{mostTicks};
-ghost use Rattle.file.specs.File.{headerGood, cardsInRange, runCount, runsFrom, runTicks, runRecord};
+ghost use Rattle.file.specs.File.{headerWidth, runWidth, cardCount, runCount, runsFrom, headerGood, cardIn, cardsInRange, runTicks, runRecord};
 ghost use Rattle.file.specs.Runs.{runFault};
 ghost use Rattle.file.specs.Read.{runsRead, headRefusal, readOutcome};
 use card::CARD_WIDTH;
+use card::Card;
 use layout::u16_at;
 use record::RECORD_WIDTH;
 use record::Record;
@@ -24,34 +28,48 @@ pub struct Total {
     pub ticks: u16,
 }
 
-pub const HEADER_WIDTH: usize = 10;
-
-const RUN_WIDTH: usize = 2 + RECORD_WIDTH;
-
-const MOST_CARDS: usize = 8;
-
-const MOST_RUNS: usize = 6000;
-
-// Where the counts put the runs.
-fn runs_from(file: &[u8]) -> usize
-    ensures { λ x. ⌜ (x ≡ runsFrom (now (file .entry))) × (x ≤ 2000000) ⌝ }
-{
-    HEADER_WIDTH + CARD_WIDTH * (u16_at(file, 0, 0) as usize)
+// So many ticks of one record.
+pub struct Run {
+    pub ticks: u16,
+    pub record: Record,
 }
 
-pub fn run_count(file: &[u8]) -> usize
-    ensures { λ x. ⌜ (x ≡ runCount (now (file .entry))) × (x ≤ 65535) ⌝ }
+const HEADER_WIDTH: usize = 10;
+
+const TICKS_WIDTH: usize = 2;
+
+const RUN_WIDTH: usize = TICKS_WIDTH + RECORD_WIDTH;
+
+const MOST_CARDS: u16 = 8;
+
+const MOST_RUNS: u16 = 6000;
+
+pub fn card_count(file: &[u8]) -> u16
+    ensures { λ x. ⌜ x ≡ cardCount (now (file .entry)) ⌝ }
 {
-    u16_at(file, 2, 0) as usize
+    u16_at(file, 0, 0)
+}
+
+pub fn run_count(file: &[u8]) -> u16
+    ensures { λ x. ⌜ x ≡ runCount (now (file .entry)) ⌝ }
+{
+    u16_at(file, 2, 0)
+}
+
+// Where so many cards put the runs.
+pub fn runs_from(cards: u16) -> usize
+    ensures { λ x. ⌜ x ≡ headerWidth + cardWidth * cards ⌝ }
+{
+    HEADER_WIDTH + CARD_WIDTH * (cards as usize)
 }
 
 fn header_good(file: &[u8]) -> bool
     ensures { λ x. ⌜ x ≡ headerGood (now (file .entry)) ⌝ }
 {
-    let cards = u16_at(file, 0, 0) as usize;
+    let cards = card_count(file);
     let runs = run_count(file);
-    let from = runs_from(file);
-    let end = from + RUN_WIDTH * runs;
+    let from = runs_from(cards);
+    let end = from + RUN_WIDTH * (runs as usize);
     let cards_at = u16_at(file, 4, 0) as usize;
     let runs_at = u16_at(file, 6, 0) as usize;
     let total = u16_at(file, 8, 0) as usize;
@@ -65,13 +83,21 @@ fn header_good(file: &[u8]) -> bool
         & (file.len() == end)
 }
 
+// The card at a place, from 0.
+pub fn card_in(file: &[u8], i: usize) -> Card
+    requires { ⌜ headerWidth + cardWidth * (i + 1) ≤ length (now file) ⌝ }
+    ensures { λ x. ⌜ x ≡ cardIn (now (file .entry)) i ⌝ }
+{
+    card::card_at(file, HEADER_WIDTH + CARD_WIDTH * i)
+}
+
 fn cards_in_range(file: &[u8], cards: usize) -> bool
-    requires { ⌜ cards ≤ 65535 ⌝ }
+    requires { ⌜ headerWidth + cardWidth * cards ≤ length (now file) ⌝ }
     ensures { λ x. ⌜ x ≡ cardsInRange (now (file .entry)) cards ⌝ }
 {
     let mut i = 0;
     while i < cards {
-        if !card::card_in_range(card::card_at(file, HEADER_WIDTH + CARD_WIDTH * i)) {
+        if !card::card_in_range(card_in(file, i)) {
             return false;
         }
         i += 1;
@@ -85,57 +111,59 @@ pub fn head_refusal(file: &[u8]) -> u8
     if !header_good(file) {
         return refusal::BAD_FILE;
     }
-    if !cards_in_range(file, u16_at(file, 0, 0) as usize) {
+    if !cards_in_range(file, card_count(file) as usize) {
         return refusal::BAD_CARD;
     }
     0
 }
 
-pub fn run_ticks(file: &[u8], j: usize) -> usize
-    requires { ⌜ j ≤ 65535 ⌝ }
-    ensures { λ x. ⌜ (x ≡ runTicks (now (file .entry)) j) × (x ≤ 65535) ⌝ }
+// The run at a place, from 0, of those that begin at `from`.
+pub fn run_in(file: &[u8], from: usize, j: usize) -> Run
+    requires { ⌜ (from ≡ runsFrom (now file)) × (from + runWidth * (j + 1) ≤ length (now file)) ⌝ }
+    ensures { λ x. ⌜ (x .ticks ≡ runTicks (now (file .entry)) j) × (x .record ≡ runRecord (now (file .entry)) j) ⌝ }
 {
-    u16_at(file, runs_from(file), RUN_WIDTH * j) as usize
+    let at = from + RUN_WIDTH * j;
+    Run {
+        ticks: layout::u16_within(file, at),
+        record: record::record_at(file, at + TICKS_WIDTH),
+    }
 }
 
-// The ticks of the run at a place, from 0.
+// The ticks of the run at a place, from 0, of any file.
 pub fn run_length(file: &[u8], j: u16) -> u16
     ensures { λ x. ⌜ x ≡ runTicks (now (file .entry)) j ⌝ }
 {
-    run_ticks(file, j as usize) as u16
+    u16_at(file, runs_from(card_count(file)), RUN_WIDTH * (j as usize))
 }
 
-pub fn run_record(file: &[u8], j: usize) -> Record
-    requires { ⌜ j ≤ 65535 ⌝ }
-    ensures { λ x. ⌜ x ≡ runRecord (now (file .entry)) j ⌝ }
-{
-    record::record_at(file, runs_from(file) + RUN_WIDTH * j + 2)
-}
-
-fn run_fault(before: usize, ticks: usize, r: Record) -> u8
+fn run_fault(before: usize, ticks: usize, reading: Record) -> u8
     requires { ⌜ (before ≤ mostTicks) × (ticks ≤ 65535) ⌝ }
-    ensures { λ x. ⌜ x ≡ runFault before ticks r ⌝ }
+    ensures { λ x. ⌜ x ≡ runFault before ticks reading ⌝ }
 {
     let most = record::MOST_TICKS as usize;
     if (ticks == 0) | (most < before + ticks) {
         return refusal::BAD_TICKS;
     }
-    if !record::record_in_range(r) {
+    if !record::record_in_range(reading) {
         return refusal::BAD_RECORD;
     }
     0
 }
 
-// The runs, each in turn.
+// The runs, each in turn, of a file with a good header.
 pub fn runs_read(file: &[u8]) -> Total
+    requires { ⌜ headerGood (now file) ≡ true ⌝ }
     ensures { λ x. ⌜ x ≡ runsRead (now (file .entry)) ⌝ }
 {
-    let runs = run_count(file);
+    let from = runs_from(card_count(file));
+    let runs = run_count(file) as usize;
     let mut sum = 0;
     let mut j = 0;
     while j < runs {
-        let ticks = run_ticks(file, j);
-        let fault = run_fault(sum, ticks, run_record(file, j));
+        let run = run_in(file, from, j);
+        let ticks = run.ticks as usize;
+        let reading = run.record;
+        let fault = run_fault(sum, ticks, reading);
         if fault != 0 {
             return Total {
                 refusal: fault,
@@ -175,8 +203,8 @@ pub fn read(file: &[u8]) -> Counts
     }
     Counts {
         refusal: 0,
-        cards: u16_at(file, 0, 0),
-        runs: u16_at(file, 2, 0),
+        cards: card_count(file),
+        runs: run_count(file),
         ticks: runs.ticks,
     }
 }

@@ -1,3 +1,4 @@
 pub mod Written
+pub mod Put
 pub mod U16
 pub mod Slices

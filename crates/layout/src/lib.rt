@@ -1,7 +1,8 @@
-// Bytes at places of a slice. A place past the end holds 0, so reading has no `requires`.
+// Bytes at places of a slice. A place past the end holds 0 to `byte_at` and `u16_at`, which have no `requires`.
 ghost use mathlib.Core.Path.{_≡_};
-ghost use mathlib.Core.List.{[], _∷_};
-ghost use Prim.Native.Nat.{_+_, _≤_};
+ghost use mathlib.Core.List.{[], _∷_, flatMap};
+ghost use Prim.Native.Nat.{_+_, _*_, _/_, _%_, _≤_};
+ghost use lib.Dec.{leb};
 ghost use lib.ListN.{length, getD};
 ghost use Rattle.layout.specs.Layout.{u16At, u16Bytes, written};
 
@@ -17,6 +18,12 @@ pub fn byte_at(bytes: &[u8], at: usize, k: usize) -> u8
     0
 }
 
+fn u16_of(low: u8, high: u8) -> u16
+    ensures { λ r. ⌜ r ≡ low + 256 * high ⌝ }
+{
+    low as u16 + 256 * (high as u16)
+}
+
 // The u16 `k` places after `at`, its low byte first.
 pub fn u16_at(bytes: &[u8], at: usize, k: usize) -> u16
     ensures { λ r. ⌜ r ≡ u16At (now (bytes .entry)) (at + k) ⌝ }
@@ -26,8 +33,37 @@ pub fn u16_at(bytes: &[u8], at: usize, k: usize) -> u16
         return 0;
     }
     let low = byte_at(bytes, at, k);
-    let high = byte_at(bytes, at, k + 1);
-    low as u16 + 256 * (high as u16)
+    u16_of(low, byte_at(bytes, at, k + 1))
+}
+
+// The u16 from `at`, where both its bytes are known to be there: no test.
+pub fn u16_within(bytes: &[u8], at: usize) -> u16
+    requires { ⌜ at + 2 ≤ length (now bytes) ⌝ }
+    ensures { λ r. ⌜ r ≡ u16At (now (bytes .entry)) at ⌝ }
+{
+    u16_of(bytes[at], bytes[at + 1])
+}
+
+// Whether so many bytes from `at` lie within a length; at + width may not fit a usize.
+pub fn fits(length: usize, at: usize, width: usize) -> bool
+    ensures { λ r. ⌜ r ≡ leb (at + width) length ⌝ }
+{
+    if length < width {
+        return false;
+    }
+    at <= length - width
+}
+
+pub fn low_byte(x: u16) -> u8
+    ensures { λ r. ⌜ r ≡ x % 256 ⌝ }
+{
+    (x % 256) as u8
+}
+
+pub fn high_byte(x: u16) -> u8
+    ensures { λ r. ⌜ r ≡ x / 256 % 256 ⌝ }
+{
+    (x / 256) as u8
 }
 
 // Writes a u16 from `at`, its low byte first.
@@ -35,8 +71,20 @@ pub fn put_u16(bytes: &mut [u8], at: usize, x: u16)
     requires { ⌜ at + 2 ≤ length (now bytes) ⌝ }
     ensures { λ _. ⌜ now (bytes .exit) ≡ written (now (bytes .entry)) at (u16Bytes x) ⌝ }
 {
-    bytes[at] = (x % 256) as u8;
-    bytes[at + 1] = (x / 256 % 256) as u8;
+    bytes[at] = low_byte(x);
+    bytes[at + 1] = high_byte(x);
+}
+
+// Writes u16 end to end from `at`, each with its low byte first.
+pub fn put_u16s(bytes: &mut [u8], at: usize, new: &[u16])
+    requires { ⌜ at + 2 * length (now new) ≤ length (now bytes) ⌝ }
+    ensures { λ _. ⌜ now (bytes .exit) ≡ written (now (bytes .entry)) at (flatMap u16Bytes (now (new .entry))) ⌝ }
+{
+    let mut i = 0;
+    while i < new.len() {
+        put_u16(bytes, at + 2 * i, new[i]);
+        i += 1;
+    }
 }
 
 // Writes eight bytes from `at`.

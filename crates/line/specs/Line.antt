@@ -36,6 +36,6 @@ four a b c d end = number a space ++ number b space ++ number c space ++ number 
 
 -- "refusal n P T marks causes lowest held"
 unfoldable pub lineOf : Outcome → List ℕ
-lineOf x =
-    four (x .refusal) (x .desk .n) (x .answer .permitted) (x .answer .target) space
-    ++ four (x .answer .marks) (x .answer .causes) (x .answer .lowest) (x .answer .held) lineEnd
+lineOf outcome =
+    four (outcome .refusal) (outcome .desk .n) (outcome .answer .permitted) (outcome .answer .target) space
+    ++ four (outcome .answer .marks) (outcome .answer .causes) (outcome .answer .lowest) (outcome .answer .held) lineEnd

@@ -61,27 +61,27 @@ fn put_four(out: &mut [u8], at: usize, a: u16, b: u16, c: u16, d: u16, end: u8) 
 }
 
 // Writes the line of an outcome; answers its length.
-pub fn line_of(x: Outcome, out: &mut [u8; LINE_MOST]) -> usize
-    ensures length { λ r. ⌜ (r ≡ length (lineOf x)) × (r ≤ length (now (out .exit))) ⌝ }
-    ensures text { λ r. ⌜ now (out .exit) ≡ written (now (out .entry)) 0 (lineOf x) ⌝ }
+pub fn line_of(outcome: Outcome, out: &mut [u8; LINE_MOST]) -> usize
+    ensures length { λ r. ⌜ (r ≡ length (lineOf outcome)) × (r ≤ length (now (out .exit))) ⌝ }
+    ensures text { λ r. ⌜ now (out .exit) ≡ written (now (out .entry)) 0 (lineOf outcome) ⌝ }
 {
-    let a = x.answer;
+    let answer = outcome.answer;
     let half = put_four(
         out,
         0,
-        x.refusal as u16,
-        x.desk.n,
-        a.permitted,
-        a.target,
+        outcome.refusal as u16,
+        outcome.desk.n,
+        answer.permitted,
+        answer.target,
         SPACE,
     );
     put_four(
         out,
         half,
-        a.marks as u16,
-        a.causes as u16,
-        a.lowest as u16,
-        a.held as u16,
+        answer.marks as u16,
+        answer.causes as u16,
+        answer.lowest as u16,
+        answer.held as u16,
         LINE_END,
     )
 }

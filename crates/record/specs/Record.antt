@@ -1,12 +1,12 @@
 -- The record: its ranges, as facts and as the test that the code makes, and its 8 bytes.
 use Prim.Native.Nat.{ℕ, _+_, _≤_}
-use mathlib.Core.Bool.{Bool, cond, _&&_}
+use mathlib.Core.Bool.{Bool, _&&_}
 use mathlib.Core.List.{List, [], _∷_, _++_}
 use lib.Dec.{leb}
-use lib.ListN.{length, getD}
+use lib.ListN.{getD}
 use Rattle.reading.specs.Speed.{topSpeed}
 use Rattle.reading.specs.Pressure.{topBand}
-use Rattle.layout.specs.Layout.{u16At, u16Bytes, written}
+use Rattle.layout.specs.Layout.{u16At, u16Bytes, put}
 use Rattle.record.specs.declared.Record.{Record}
 use Rattle.record.specs.Codes.{clear}
 use Rattle.record.specs.Modes.{pos, zav}
@@ -16,26 +16,26 @@ use Rattle.record.specs.Flags.{allFlags}
 abbrev pub reverse : ℕ
 reverse = 2
 
-pub record RecordRanges (r : Record) : Type 0 where
-  pub v-most : r .v ≤ topSpeed
-  pub code-most : r .code ≤ clear
-  pub mode-least : pos ≤ r .mode
-  pub mode-most : r .mode ≤ zav
-  pub lever-most : r .lever ≤ reverse
-  pub flags-most : r .flags ≤ allFlags
-  pub band-most : r .band ≤ topBand
-  pub sense-most : r .sense ≤ reverse
+pub record RecordRanges (reading : Record) : Type 0 where
+  pub v-most : reading .v ≤ topSpeed
+  pub code-most : reading .code ≤ clear
+  pub mode-least : pos ≤ reading .mode
+  pub mode-most : reading .mode ≤ zav
+  pub lever-most : reading .lever ≤ reverse
+  pub flags-most : reading .flags ≤ allFlags
+  pub band-most : reading .band ≤ topBand
+  pub sense-most : reading .sense ≤ reverse
 
 unfoldable pub recordInRange : Record → Bool
-recordInRange r =
-    leb (r .v) topSpeed
-    && leb (r .code) clear
-    && leb pos (r .mode)
-    && leb (r .mode) zav
-    && leb (r .lever) reverse
-    && leb (r .flags) allFlags
-    && leb (r .band) topBand
-    && leb (r .sense) reverse
+recordInRange reading =
+    leb (reading .v) topSpeed
+    && leb (reading .code) clear
+    && leb pos (reading .mode)
+    && leb (reading .mode) zav
+    && leb (reading .lever) reverse
+    && leb (reading .flags) allFlags
+    && leb (reading .band) topBand
+    && leb (reading .sense) reverse
 
 -- a record of zeros, which is out of range: there is no mode 0
 abbrev pub noRecord : Record
@@ -46,7 +46,8 @@ abbrev pub recordWidth : ℕ
 recordWidth = 8
 
 abbrev pub recordBytes : Record → List ℕ
-recordBytes r = u16Bytes (r .v) ++ (r .code ∷ r .mode ∷ r .lever ∷ r .flags ∷ r .band ∷ r .sense ∷ [])
+recordBytes reading =
+    u16Bytes (reading .v) ++ (reading .code ∷ reading .mode ∷ reading .lever ∷ reading .flags ∷ reading .band ∷ reading .sense ∷ [])
 
 unfoldable pub recordAt : List ℕ → ℕ → Record
 recordAt bytes at =
@@ -62,4 +63,4 @@ recordAt bytes at =
 
 -- where the bytes do not fit, nothing is written
 unfoldable pub putRecord : List ℕ → ℕ → Record → List ℕ
-putRecord bytes at r = cond (leb (at + recordWidth) (length bytes)) (written bytes at (recordBytes r)) bytes
+putRecord bytes at reading = put bytes at (recordBytes reading)

@@ -10,23 +10,23 @@ use Rattle.record.specs.Record.{recordInRange}
 
 -- v and band are what the floats say, and the switches are as they are
 unfoldable pub sampleRecord : Sample → Record
-sampleRecord s =
+sampleRecord sample =
     record {
-      v = speedValue (speedOf (s .speed));
-      code = s .code;
-      mode = s .mode;
-      lever = s .lever;
-      flags = s .flags;
-      band = pressureBand (pressureOf (s .pressure));
-      sense = s .sense;
+      v = speedValue (speedOf (sample .speed));
+      code = sample .code;
+      mode = sample .mode;
+      lever = sample .lever;
+      flags = sample .flags;
+      band = pressureBand (pressureOf (sample .pressure));
+      sense = sample .sense;
     }
 
 -- another field
 unfoldable pub recordRefusal : Record → ℕ
-recordRefusal r = cond (recordInRange r) 0 badField
+recordRefusal reading = cond (recordInRange reading) 0 badField
 
 -- speed, pressure, another field, in that order
 unfoldable pub sampleRefusal : Sample → ℕ
-sampleRefusal s =
-    firstRefusal (speedRefusal (speedOf (s .speed)))
-    (firstRefusal (pressureRefusal (pressureOf (s .pressure))) (recordRefusal (sampleRecord s)))
+sampleRefusal sample =
+    firstRefusal (speedRefusal (speedOf (sample .speed)))
+    (firstRefusal (pressureRefusal (pressureOf (sample .pressure))) (recordRefusal (sampleRecord sample)))

@@ -1,11 +1,11 @@
 // What the cab delivers: a sample, the record that a tick goes by, and its 8 bytes.
 ghost use mathlib.Core.Path.{_≡_};
+ghost use Prim.Native.Nat.{_+_, _≤_};
+ghost use lib.ListN.{length};
 ghost use Rattle.record.specs.Modes.{preOrVyl};
 ghost use Rattle.record.specs.Flags.{keysOf};
-ghost use Rattle.record.specs.Record.{recordInRange, recordAt, putRecord};
+ghost use Rattle.record.specs.Record.{recordInRange, recordWidth, recordAt, putRecord};
 ghost use Rattle.record.specs.Sample.{recordRefusal, sampleRefusal, sampleRecord};
-use layout::byte_at;
-use layout::u16_at;
 use reading::TOP_SPEED;
 use reading::pressure_band;
 use reading::pressure_of;
@@ -112,7 +112,7 @@ pub struct Keys {
 
 // `buttons` are those of the tick before.
 pub fn keys_of(flags: u8, buttons: u8) -> Keys
-    ensures { λ k. ⌜ k ≡ keysOf flags buttons ⌝ }
+    ensures { λ keys. ⌜ keys ≡ keysOf flags buttons ⌝ }
 {
     Keys {
         vigilance: (flags / VIGILANCE % 2 == 1) & !(buttons / VIGILANCE % 2 == 1),
@@ -128,45 +128,49 @@ pub fn keys_of(flags: u8, buttons: u8) -> Keys
 // The highest band.
 pub const TOP_BAND: u8 = 2;
 
-pub fn record_in_range(r: Record) -> bool
-    ensures { λ b. ⌜ b ≡ recordInRange r ⌝ }
+pub fn record_in_range(reading: Record) -> bool
+    ensures { λ b. ⌜ b ≡ recordInRange reading ⌝ }
 {
-    (r.v <= TOP_SPEED)
-        & (r.code <= CLEAR)
-        & (POS <= r.mode)
-        & (r.mode <= ZAV)
-        & (r.lever <= REVERSE)
-        & (r.flags <= ALL_FLAGS)
-        & (r.band <= TOP_BAND)
-        & (r.sense <= REVERSE)
+    (reading.v <= TOP_SPEED)
+        & (reading.code <= CLEAR)
+        & (POS <= reading.mode)
+        & (reading.mode <= ZAV)
+        & (reading.lever <= REVERSE)
+        & (reading.flags <= ALL_FLAGS)
+        & (reading.band <= TOP_BAND)
+        & (reading.sense <= REVERSE)
 }
 
-fn record_refusal(r: Record) -> u8
-    ensures { λ n. ⌜ n ≡ recordRefusal r ⌝ }
+fn record_refusal(reading: Record) -> u8
+    ensures { λ n. ⌜ n ≡ recordRefusal reading ⌝ }
 {
-    if record_in_range(r) { 0 } else { BAD_FIELD }
+    if record_in_range(reading) {
+        0
+    } else {
+        BAD_FIELD
+    }
 }
 
-pub fn take_sample(s: Sample) -> Taken
-    ensures { λ r. ⌜ (r .refusal ≡ sampleRefusal s) × (r .record ≡ sampleRecord s) ⌝ }
+pub fn take_sample(sample: Sample) -> Taken
+    ensures { λ r. ⌜ (r .refusal ≡ sampleRefusal sample) × (r .record ≡ sampleRecord sample) ⌝ }
 {
-    let speed = speed_of(s.speed);
-    let pressure = pressure_of(s.pressure);
-    let taken = Record {
+    let speed = speed_of(sample.speed);
+    let pressure = pressure_of(sample.pressure);
+    let reading = Record {
         v: speed_value(speed),
-        code: s.code,
-        mode: s.mode,
-        lever: s.lever,
-        flags: s.flags,
+        code: sample.code,
+        mode: sample.mode,
+        lever: sample.lever,
+        flags: sample.flags,
         band: pressure_band(pressure),
-        sense: s.sense,
+        sense: sample.sense,
     };
     let first = speed_refusal(speed);
     let second = pressure_refusal(pressure);
-    let third = record_refusal(taken);
+    let third = record_refusal(reading);
     Taken {
         refusal: first_refusal(first, first_refusal(second, third)),
-        record: taken,
+        record: reading,
     }
 }
 
@@ -178,41 +182,36 @@ pub const RECORD_WIDTH: usize = 8;
 
 // The record in the 8 bytes from `at`.
 pub fn record_at(bytes: &[u8], at: usize) -> Record
+    requires { ⌜ at + recordWidth ≤ length (now bytes) ⌝ }
     ensures { λ r. ⌜ r ≡ recordAt (now (bytes .entry)) at ⌝ }
 {
     Record {
-        v: u16_at(bytes, at, 0),
-        code: byte_at(bytes, at, 2),
-        mode: byte_at(bytes, at, 3),
-        lever: byte_at(bytes, at, 4),
-        flags: byte_at(bytes, at, 5),
-        band: byte_at(bytes, at, 6),
-        sense: byte_at(bytes, at, 7),
+        v: layout::u16_within(bytes, at),
+        code: bytes[at + 2],
+        mode: bytes[at + 3],
+        lever: bytes[at + 4],
+        flags: bytes[at + 5],
+        band: bytes[at + 6],
+        sense: bytes[at + 7],
     }
 }
 
 // Writes the record's 8 bytes from `at`; where they do not fit, nothing.
-pub fn put_record(bytes: &mut [u8], at: usize, r: Record)
-    ensures { λ _. ⌜ now (bytes .exit) ≡ putRecord (now (bytes .entry)) at r ⌝ }
+pub fn put_record(bytes: &mut [u8], at: usize, reading: Record)
+    ensures { λ _. ⌜ now (bytes .exit) ≡ putRecord (now (bytes .entry)) at reading ⌝ }
 {
-    // at + 8 may not fit a usize
-    if bytes.len() < RECORD_WIDTH {
-        return;
+    if layout::fits(bytes.len(), at, RECORD_WIDTH) {
+        layout::put_eight(
+            bytes,
+            at,
+            layout::low_byte(reading.v),
+            layout::high_byte(reading.v),
+            reading.code,
+            reading.mode,
+            reading.lever,
+            reading.flags,
+            reading.band,
+            reading.sense,
+        );
     }
-    if bytes.len() - RECORD_WIDTH < at {
-        return;
-    }
-    let v = r.v;
-    layout::put_eight(
-        bytes,
-        at,
-        (v % 256) as u8,
-        (v / 256 % 256) as u8,
-        r.code,
-        r.mode,
-        r.lever,
-        r.flags,
-        r.band,
-        r.sense,
-    );
 }

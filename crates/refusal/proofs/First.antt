@@ -22,3 +22,11 @@ first-zero b = refl
 pub first-some : (a b : ℕ) → (a ≡ 0 → ⊥) → firstRefusal a b ≡ a
 unfolding firstRefusal
 first-some a b h = rw (ne-eqb a 0 h)
+
+pub first-of-three : (a b c : ℕ) → firstRefusal a (firstRefusal b c) ≡ firstRefusal (firstRefusal a b) c
+unfolding firstRefusal
+first-of-three a b c = go (eqb a 0) refl
+  where
+    go : (t : Bool) → eqb a 0 ≡ t → cond (eqb a 0) (firstRefusal b c) a ≡ firstRefusal (cond (eqb a 0) b a) c
+    go true e = rw e
+    go false e = rw (e, e)

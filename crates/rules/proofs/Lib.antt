@@ -1,3 +1,4 @@
 pub mod Keeps
 pub mod After
 pub mod Valve
+pub mod Bytes

@@ -3,7 +3,8 @@ use Prim.Native.Nat.{ℕ, _+_}
 use mathlib.Core.Bool.{Bool, not, cond}
 use mathlib.Core.List.{List, [], _∷_, _++_}
 use lib.Dec.{ltb, eqb}
-use Rattle.layout.specs.Layout.{u16Bytes}
+use lib.ListN.{getD}
+use Rattle.layout.specs.Layout.{u16At, u16Bytes, put}
 use Rattle.signal.specs.declared.Signal.{Signal}
 use Rattle.signal.specs.Speed.{manOn, curveRuns}
 use Rattle.cyclic.specs.declared.CyclicStep.{CyclicStep}
@@ -49,6 +50,21 @@ answerWidth = 8
 
 abbrev pub answerBytes : Answer → List ℕ
 answerBytes answer = u16Bytes (answer .permitted) ++ u16Bytes (answer .target) ++ (answer .marks ∷ answer .causes ∷ answer .lowest ∷ answer .held ∷ [])
+
+unfoldable pub answerAt : List ℕ → ℕ → Answer
+answerAt bytes at =
+    record {
+      permitted = u16At bytes at;
+      target = u16At bytes (at + 2);
+      marks = getD bytes (at + 4) 0;
+      causes = getD bytes (at + 5) 0;
+      lowest = getD bytes (at + 6) 0;
+      held = getD bytes (at + 7) 0;
+    }
+
+-- where the bytes do not fit, nothing is written
+unfoldable pub putAnswer : List ℕ → ℕ → Answer → List ℕ
+putAnswer bytes at a = put bytes at (answerBytes a)
 
 abbrev pub noAnswer : Answer
 noAnswer = record { permitted = 0; target = 0; marks = 0; causes = 0; lowest = 0; held = 0 }

@@ -1,18 +1,24 @@
 // One whole tick: the ten steps in their order, and the answer.
 ghost use mathlib.Core.Path.{_≡_};
-ghost use Prim.Native.Nat.{_≤_};
+ghost use Prim.Native.Nat.{_+_, _≤_};
+ghost use lib.ListN.{length};
+ghost use Rattle.layout.specs.Layout.{written};
 ghost use Rattle.card.specs.Card.{CardRanges};
 ghost use Rattle.reading.specs.Speed.{topSpeed};
 ghost use Rattle.record.specs.Record.{RecordRanges};
 ghost use Rattle.signal.specs.Ranges.{SignalStepRanges};
 ghost use Rattle.state.specs.State.{StateRanges};
 ghost use Rattle.rules.specs.Permitted.{ceiling, step6Permitted};
-ghost use Rattle.rules.specs.Answer.{marks, noAnswer};
+ghost use Rattle.rules.specs.Answer.{marks, answerWidth, answerBytes, noAnswer, answerAt, putAnswer};
 ghost use Rattle.rules.specs.Tick.{keysIn, signalIn, triggersIn, stateNext, steps2To10, advance};
 ghost use Rattle.rules.specs.Findings.{steps2To9};
 use card::Card;
 use causes::Causes;
 use cyclic::CyclicStep;
+use layout::byte_at;
+use layout::high_byte;
+use layout::low_byte;
+use layout::u16_at;
 use motion::DirectionStep;
 use motion::StandingStep;
 use onetime::OneTimeStep;
@@ -254,4 +260,49 @@ pub fn advance(card: Card, state: State, reading: Record) -> AfterTick
     let entered = state::step_1_mode(state, reading);
     let findings = steps_2_to_9(card, entered, reading);
     steps_2_to_10(card, entered, reading, findings)
+}
+
+// How many bytes an answer takes.
+pub const ANSWER_WIDTH: usize = 8;
+
+// The answer in the 8 bytes from `at`; a place past the end holds 0.
+pub fn answer_at(bytes: &[u8], at: usize) -> Answer
+    ensures { λ x. ⌜ x ≡ answerAt (now (bytes .entry)) at ⌝ }
+{
+    Answer {
+        permitted: u16_at(bytes, at, 0),
+        target: u16_at(bytes, at, 2),
+        marks: byte_at(bytes, at, 4),
+        causes: byte_at(bytes, at, 5),
+        lowest: byte_at(bytes, at, 6),
+        held: byte_at(bytes, at, 7),
+    }
+}
+
+// Writes the answer's 8 bytes from `at`, where they are known to fit: no test.
+pub fn write_answer(bytes: &mut [u8], at: usize, answer: Answer)
+    requires { ⌜ at + answerWidth ≤ length (now bytes) ⌝ }
+    ensures { λ _. ⌜ now (bytes .exit) ≡ written (now (bytes .entry)) at (answerBytes answer) ⌝ }
+{
+    layout::put_eight(
+        bytes,
+        at,
+        low_byte(answer.permitted),
+        high_byte(answer.permitted),
+        low_byte(answer.target),
+        high_byte(answer.target),
+        answer.marks,
+        answer.causes,
+        answer.lowest,
+        answer.held,
+    );
+}
+
+// Writes the answer's 8 bytes from `at`; where they do not fit, nothing.
+pub fn put_answer(bytes: &mut [u8], at: usize, answer: Answer)
+    ensures { λ _. ⌜ now (bytes .exit) ≡ putAnswer (now (bytes .entry)) at answer ⌝ }
+{
+    if layout::fits(bytes.len(), at, ANSWER_WIDTH) {
+        write_answer(bytes, at, answer);
+    }
 }

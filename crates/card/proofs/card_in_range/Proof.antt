@@ -1,3 +1,4 @@
+-- `card_in_range` makes the definition's test: the two compute to one another.
 use Rattle.card.specs.Card.{cardInRange}
 use mathlib.Core.Path.{refl}
 use Rattle.card.proofs.card_in_range.Statement.{statement}

@@ -1,3 +1,5 @@
+-- `answer_all` writes the answers of the runs' ticks. Two loops, over the runs and over a run's ticks: what is written so far is the answers
+-- of the ticks so far, and the state is that after them. The measures are the runs and the ticks that are left.
 use Prim.Native.Nat.{ℕ, _+_, _*_, _≤_, _-_}
 use mathlib.Core.Path.{_≡_, refl, sym, ap, ap₂, _∙_}
 use mathlib.Core.List.{List}
@@ -7,52 +9,77 @@ use lib.ListN.{length}
 use Rattle.layout.specs.Layout.{written}
 use Rattle.layout.proofs.Written.{written-nil, length-written}
 use Rattle.card.specs.declared.Card.{Card}
+use Rattle.card.specs.Card.{CardRanges}
 use Rattle.record.specs.declared.Record.{Record}
 use Rattle.record.proofs.Ranges.{record-ranges}
 use Rattle.state.specs.declared.State.{State}
-use Rattle.rules.specs.declared.AfterTick.{AfterTick}
 use Rattle.state.specs.State.{StateRanges}
+use Rattle.state.proofs.Ranges.{fresh-ranges}
+use Rattle.rules.specs.declared.AfterTick.{AfterTick}
 use Rattle.rules.specs.Tick.{advance}
 use Rattle.rules.specs.After.{after}
-use Rattle.state.proofs.Ranges.{fresh-ranges}
+use Rattle.rules.specs.Answer.{answerWidth, answerBytes}
 use Rattle.rules.proofs.After.{after-next}
 use Rattle.file.specs.File.{runCount}
 use Rattle.file.specs.Runs.{ticksTo}
-use Rattle.rules.specs.Answer.{answerWidth, answerBytes}
-use Rattle.exercise.specs.Answers.{answers}
 use Rattle.file.specs.Read.{drive}
+use Rattle.file.proofs.Header.{header-length}
 use Rattle.file.proofs.Runs.{RunDriven, run-driven}
+use Rattle.exercise.specs.Answers.{answers}
 use Rattle.exercise.proofs.Buffer.{one-more}
 use Rattle.exercise.proofs.answer_all.Statement.{statement}
 use Rattle.exercise.proofs.answer_all.Tie as tie
 
--- the ticks of one run: what was written before it stays written
+-- in a run: what was written before it stays written
+record InRun (file : List ℕ) (card : Card) (buffer₀ buffer : List ℕ) (i₀ j end i : ℕ) (reading : Record) (state : State) : Type 0 where
+  card-good : CardRanges card
+  run : RunDriven file j end reading
+  room : answerWidth * end ≤ length buffer₀
+  since : ticksTo file j ≤ i
+  most : i ≤ end
+  reached : state ≡ after card (drive file) i .state
+  ranges : StateRanges state
+  as-long : length buffer ≡ length buffer₀
+  so-far : (l : List ℕ) → answerWidth * end ≤ length l → buffer₀ ≡ written l 0 (answers card (drive file) i₀)
+      → buffer ≡ written l 0 (answers card (drive file) i)
+
 abbrev Inv-loop2 : tie.InvT-loop2
-Inv-loop2 file card buffer₀ runs s₀ i₀ j r end buffer s i =
-    RunDriven file j end r × (ticksTo file j ≤ i) × (i ≤ end) × (s ≡ after card (drive file) i .state) × StateRanges s
-    × (length buffer ≡ length buffer₀)
-    × ((l : List ℕ) → answerWidth * end ≤ length l → buffer₀ ≡ written l 0 (answers card (drive file) i₀)
-    → buffer ≡ written l 0 (answers card (drive file) i))
+Inv-loop2 file card buffer₀ from runs state₀ i₀ j reading end buffer state i = InRun file card buffer₀ buffer i₀ j end i reading state
 
 abbrev μ-loop2 : tie.MeasureT-loop2
-μ-loop2 file card buffer₀ runs s₀ i₀ j r end buffer s i = end - i
+μ-loop2 file card buffer₀ from runs state₀ i₀ j reading end buffer state i = end - i
 
--- the runs
+-- between runs
+record BetweenRuns (file : List ℕ) (card : Card) (buffer₀ : List ℕ) (runs : ℕ) (buffer : List ℕ) (state : State) (i j : ℕ) : Type 0 where
+  most : j ≤ runs
+  ticks : i ≡ ticksTo file j
+  reached : state ≡ after card (drive file) i .state
+  ranges : StateRanges state
+  as-long : length buffer ≡ length buffer₀
+  so-far : buffer ≡ written buffer₀ 0 (answers card (drive file) i)
+
 abbrev Inv-loop : tie.InvT-loop
-Inv-loop file card buffer₀ runs s₀ i₀ j₀ buffer s i j =
-    (j ≤ runs) × (i ≡ ticksTo file j) × (s ≡ after card (drive file) i .state) × StateRanges s
-    × (length buffer ≡ length buffer₀) × (buffer ≡ written buffer₀ 0 (answers card (drive file) i))
+Inv-loop file card buffer₀ from runs state₀ i₀ j₀ buffer state i j = BetweenRuns file card buffer₀ runs buffer state i j
 
 abbrev μ-loop : tie.MeasureT-loop
-μ-loop file card buffer₀ runs s₀ i₀ j₀ buffer s i j = runs - j
+μ-loop file card buffer₀ from runs state₀ i₀ j₀ buffer state i j = runs - j
 
 -- one tick more
-again : (card : Card) (H : ℕ → Record) (i : ℕ) (s : State) (r : Record) (next : AfterTick)
-    → s ≡ after card H i .state → r ≡ H i → next ≡ advance card s r → next ≡ after card H (i + 1)
-again card H i s r next p q n = n ∙ ap₂ (advance card) p q ∙ sym (after-next card H i)
+again : (card : Card) (H : ℕ → Record) (i : ℕ) (state : State) (reading : Record) (next : AfterTick)
+    → state ≡ after card H i .state → reading ≡ H i → next ≡ advance card state reading → next ≡ after card H (i + 1)
+again card H i state reading next p q n = n ∙ ap₂ (advance card) p q ∙ sym (after-next card H i)
+
+card-count-requires : tie.Need-card-count-requires Inv-loop2 μ-loop2 Inv-loop μ-loop
+card-count-requires c κs = search needs
+
+runs-from-requires : tie.Need-runs-from-requires Inv-loop2 μ-loop2 Inv-loop μ-loop
+runs-from-requires c κs = search needs
 
 run-count-requires : tie.Need-run-count-requires Inv-loop2 μ-loop2 Inv-loop μ-loop
 run-count-requires c κs = search needs
+
+cast-runs : tie.Need-cast-runs Inv-loop2 μ-loop2 Inv-loop μ-loop
+cast-runs c = search needs
 
 fresh-state-requires : tie.Need-fresh-state-requires Inv-loop2 μ-loop2 Inv-loop μ-loop
 fresh-state-requires c κs = search needs
@@ -60,95 +87,147 @@ fresh-state-requires c κs = search needs
 loop-holds : tie.Need-loop-holds Inv-loop2 μ-loop2 Inv-loop μ-loop
 unfolding after answers ticksTo
 loop-holds c =
-    (omega arith, refl, c .fresh-state .ensures, rw (c .fresh-state .ensures) fresh-ranges, refl, sym (written-nil _ 0))
+    record {
+      most = omega arith;
+      ticks = refl;
+      reached = c .fresh-state .ensures;
+      ranges = rw (c .fresh-state .ensures) fresh-ranges;
+      as-long = refl;
+      so-far = sym (written-nil _ 0);
+    }
 
-run-record-requires : tie.Need-run-record-requires Inv-loop2 μ-loop2 Inv-loop μ-loop
-run-record-requires c κs = omega (arith, c .before .before .before .run-count .ensures .1)
+run-in-requires : tie.Need-run-in-requires Inv-loop2 μ-loop2 Inv-loop μ-loop
+run-in-requires c κs =
+    let at-runs = c .before .before .before in
+    let at-from = at-runs .before in
+    let start = at-from .before .before .before .before in
+    let runs = at-runs .run-count .ensures in
+    let from = at-from .runs-from .ensures in
+    let cards = at-from .before .card-count .ensures in
+    let length = header-length (start .args .file .now) (start .pre .1 .0) in
+    (omega arith, omega arith)
 
-run-ticks-requires : tie.Need-run-ticks-requires Inv-loop2 μ-loop2 Inv-loop μ-loop
-run-ticks-requires c κs = omega (arith, c .before .before .before .before .run-count .ensures .1)
+cast-end : tie.Need-cast-end Inv-loop2 μ-loop2 Inv-loop μ-loop
+cast-end c = search needs
 
 add-end : tie.Need-add-end Inv-loop2 μ-loop2 Inv-loop μ-loop
 add-end c =
-    let l = c .before .before .before .loop in
-    let run = run-driven _ _ _ _ _ _ (c .before .before .before .before .before .before .before .before .pre .1) (c .before .before .before .before .before .run-count .ensures .0) (c .before .before .loop-test .taken) (l .inv .1) (c .run-ticks .ensures .0) (c .before .run-record .ensures) in
+    let at-run = c .before .before in
+    let at-test = at-run .before in
+    let at-runs = at-test .before .before .before in
+    let start = at-runs .before .before .before .before .before in
+    let run = run-driven _ _ _ _ _ _ (start .pre .1 .1 .0) (at-runs .run-count .ensures) (at-test .loop-test .taken) (at-test .before .loop .inv .ticks)
+    (at-run .run-in .ensures .0) (at-run .run-in .ensures .1) in
     let most = run .most in
     omega arith
 
 loop2-holds : tie.Need-loop2-holds Inv-loop2 μ-loop2 Inv-loop μ-loop
 loop2-holds c =
-    let l = c .before .before .before .loop in
-    let run = run-driven _ _ _ _ _ _ (c .before .before .before .before .before .before .before .before .pre .1) (c .before .before .before .before .before .run-count .ensures .0) (c .before .before .loop-test .taken) (l .inv .1) (c .run-ticks .ensures .0) (c .before .run-record .ensures) in
-    (run, omega (arith, l .inv .1), omega arith, l .inv .2, l .inv .3, refl, λ b fits e. e)
+    let at-run = c .before .before in
+    let at-test = at-run .before in
+    let head = at-test .before .loop in
+    let at-runs = at-test .before .before .before in
+    let start = at-runs .before .before .before .before .before in
+    let run = run-driven _ _ _ _ _ _ (start .pre .1 .1 .0) (at-runs .run-count .ensures) (at-test .loop-test .taken) (head .inv .ticks)
+    (at-run .run-in .ensures .0) (at-run .run-in .ensures .1) in
+    record {
+      card-good = start .pre .0;
+      run = run;
+      room = omega (arith, run .within, head .inv .as-long, start .pre .1 .1 .1);
+      since = omega (arith, head .inv .ticks);
+      most = omega arith;
+      reached = head .inv .reached;
+      ranges = head .inv .ranges;
+      as-long = refl;
+      so-far = λ b fits e. e;
+    }
 
 advance-requires : tie.Need-advance-requires Inv-loop2 μ-loop2 Inv-loop μ-loop
 advance-requires c κs =
-    let l = c .before .loop2 in
-    (c .before .before .before .before .before .before .before .before .before .before .pre .0, l .inv .4, record-ranges _ (l .inv .0 .good))
+    let inv = c .before .loop2 .inv in
+    (inv .card-good, inv .ranges, record-ranges _ (inv .run .good))
 
-mul-put-answer : tie.Need-mul-put-answer Inv-loop2 μ-loop2 Inv-loop μ-loop
-mul-put-answer c = omega (arith, c .before .before .loop2-test .taken, c .before .before .before .loop2 .inv .0 .most)
+mul-write-answer : tie.Need-mul-write-answer Inv-loop2 μ-loop2 Inv-loop μ-loop
+mul-write-answer c =
+    let at-test = c .before .before .before in
+    omega (arith, at-test .loop2-test .taken, at-test .before .loop2 .inv .run .most)
 
-put-answer-requires : tie.Need-put-answer-requires Inv-loop2 μ-loop2 Inv-loop μ-loop
-put-answer-requires c κs =
-    let l = c .before .before .before .loop2 in
-    omega (arith, c .before .before .loop2-test .taken, l .inv .0 .within, l .inv .5, c .before .before .before .before .before .before .before .loop .inv .4, c .before .before .before .before .before .before .before .before .before .before .before .before .pre .2)
+write-answer-requires : tie.Need-write-answer-requires Inv-loop2 μ-loop2 Inv-loop μ-loop
+write-answer-requires c κs =
+    let at-test = c .before .before .before in
+    let inv = at-test .before .loop2 .inv in
+    omega (arith, at-test .loop2-test .taken, inv .room, inv .as-long)
 
 add-i : tie.Need-add-i Inv-loop2 μ-loop2 Inv-loop μ-loop
-add-i c = omega (arith, c .before .before .before .before .before .before .loop2-test .taken, c .before .before .before .before .before .before .before .loop2 .inv .0 .most)
+add-i c =
+    let at-test = c .before .before .before .before .before .before .before in
+    omega (arith, at-test .loop2-test .taken, at-test .before .loop2 .inv .run .most)
 
 loop2-less : tie.Need-loop2-less Inv-loop2 μ-loop2 Inv-loop μ-loop
-loop2-less c = omega (arith, c .before .before .before .before .before .before .loop2-test .taken)
+loop2-less c = let at-test = c .before .before .before .before .before .before .before in omega (arith, at-test .loop2-test .taken)
 
 loop2-again : tie.Need-loop2-again Inv-loop2 μ-loop2 Inv-loop μ-loop
 loop2-again c =
-    let l = c .before .before .before .before .before .before .before .loop2 in
-    let start = c .before .before .before .before .before .before .before .before .before .before .before .before .before .before .before .before in
-    let a = start .args in
-    let more = c .before .before .before .before .before .before .loop2-test .taken in
-    let tick = c .before .before .before .before .before .advance in
-    let put = c .before .before .before .put-answer in
-    let next = again (a .card) (drive (a .file .now)) (l .i) _ _ (tick .result) (l .inv .3) (l .inv .0 .each (l .i) (l .inv .1) more) (tick .ensures .0) in (
-      l .inv .0,
-      omega (arith, l .inv .1),
-      omega (arith, more),
-      ap (λ (x : AfterTick). x .state) next,
-      tick .ensures .1,
-      ap length (put .ensures) ∙ length-written _ _ _ (omega (arith, more, l .inv .0 .within, l .inv .5, c .before .before .before .before .before .before .before .before .before .before .before .loop .inv .4, start .pre .2)) ∙ l .inv .5,
-      λ b fits e.
-          put .ensures
-          ∙ ap₂ (λ (b : List ℕ) (x : AfterTick). written b (answerWidth * l .i) (answerBytes (x .answer))) (l .inv .6 b fits e) next
-          ∙ one-more (a .card) (drive (a .file .now)) b (l .i) (omega (arith, more, fits)),
-    )
+    let at-put = c .before .before .before in
+    let at-tick = at-put .before .before .before in
+    let at-test = at-tick .before in
+    let head = at-test .before .loop2 in
+    let start = at-test .before .before .before .before .before .before .before .before .before .before .before .before .before in
+    let card = start .args .card in
+    let records = drive (start .args .file .now) in
+    let inv = head .inv in
+    let more = at-test .loop2-test .taken in
+    let tick = at-tick .advance in
+    let fits : answerWidth * head .i + answerWidth ≤ length (head .buffer) = omega (arith, more, inv .room, inv .as-long) in
+    let put = at-put .write-answer .ensures in
+    let this = inv .run .each (head .i) (inv .since) (omega (arith, more)) in
+    let next = again card records (head .i) _ _ (tick .result) (inv .reached) this (tick .ensures .0) in
+    record {
+      card-good = inv .card-good;
+      run = inv .run;
+      room = inv .room;
+      since = omega (arith, inv .since);
+      most = omega (arith, more);
+      reached = ap (λ (x : AfterTick). x .state) next;
+      ranges = tick .ensures .1;
+      as-long = ap length put ∙ length-written _ _ _ fits ∙ inv .as-long;
+      so-far = λ b room e.
+          put
+          ∙ ap₂ (λ (b : List ℕ) (x : AfterTick). written b (answerWidth * head .i) (answerBytes (x .answer))) (inv .so-far b room e) next
+          ∙ one-more card records b (head .i) (omega (arith, more, room));
+    }
 
 add-j : tie.Need-add-j Inv-loop2 μ-loop2 Inv-loop μ-loop
-add-j c = omega (arith, c .before .before .before .before .loop-test .taken, c .before .before .before .before .before .before .before .run-count .ensures .1)
+add-j c = let at-test = c .before .before .before .before .before in omega (arith, at-test .loop-test .taken)
 
 loop-less : tie.Need-loop-less Inv-loop2 μ-loop2 Inv-loop μ-loop
-loop-less c = omega (arith, c .before .before .before .before .loop-test .taken)
+loop-less c = let at-test = c .before .before .before .before .before in omega (arith, at-test .loop-test .taken)
 
 loop-again : tie.Need-loop-again Inv-loop2 μ-loop2 Inv-loop μ-loop
 loop-again c =
-    let inner = c .before .loop2 in
-    let outer = c .before .before .before .before .before .loop in
-    let run = inner .inv .0 in (
-      omega (arith, c .before .before .before .before .loop-test .taken),
-      omega (arith, c .loop2-test .left, inner .inv .2, run .ends),
-      inner .inv .3,
-      inner .inv .4,
-      inner .inv .5 ∙ outer .inv .4,
-      inner .inv .6 _ (omega (arith, run .within, c .before .before .before .before .before .before .before .before .before .before .pre .2)) (outer .inv .5),
-    )
+    let at-test = c .before .before .before .before .before in
+    let outer = at-test .before .loop .inv in
+    let inner = c .before .loop2 .inv in
+    record {
+      most = omega (arith, at-test .loop-test .taken);
+      ticks = omega (arith, c .loop2-test .left, inner .most, inner .run .ends);
+      reached = inner .reached;
+      ranges = inner .ranges;
+      as-long = inner .as-long ∙ outer .as-long;
+      so-far = inner .so-far _ (omega (arith, inner .room, outer .as-long)) (outer .so-far);
+    }
 
 same-length : tie.Need-same-length Inv-loop2 μ-loop2 Inv-loop μ-loop
-same-length c = c .before .loop .inv .4
+same-length c = c .before .loop .inv .as-long
 
 returns : tie.Need-returns Inv-loop2 μ-loop2 Inv-loop μ-loop
 returns c =
-    let l = c .before .loop in
-    let a = c .before .before .before .before .before .before .args in
-    let e : l .j ≡ runCount (a .file .now) = omega (arith, c .loop-test .left, l .inv .0, c .before .before .before .run-count .ensures .0) in
-    l .inv .5 ∙ ap (λ (m : ℕ). written (a .buffer .now) 0 (answers (a .card) (drive (a .file .now)) m)) (l .inv .1 ∙ ap (ticksTo (a .file .now)) e)
+    let head = c .before .loop in
+    let at-runs = c .before .before .before in
+    let a = at-runs .before .before .before .before .before .args in
+    let e : head .j ≡ runCount (a .file .now) = omega (arith, c .loop-test .left, head .inv .most, at-runs .run-count .ensures) in
+    head .inv .so-far
+    ∙ ap (λ (m : ℕ). written (a .buffer .now) 0 (answers (a .card) (drive (a .file .now)) m)) (head .inv .ticks ∙ ap (ticksTo (a .file .now)) e)
 
 pub answer-all-spec : {M : Type 1} → statement M
 answer-all-spec =
@@ -158,16 +237,19 @@ answer-all-spec =
     μ-loop2
     Inv-loop
     μ-loop
+    card-count-requires
+    runs-from-requires
     run-count-requires
+    cast-runs
     fresh-state-requires
     loop-holds
-    run-record-requires
-    run-ticks-requires
+    run-in-requires
+    cast-end
     add-end
     loop2-holds
     advance-requires
-    mul-put-answer
-    put-answer-requires
+    mul-write-answer
+    write-answer-requires
     add-i
     loop2-less
     loop2-again

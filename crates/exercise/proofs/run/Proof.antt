@@ -1,12 +1,13 @@
+-- `run` returns and writes what the definitions say: nothing where the outcome is a refusal, else the answers of the chosen card.
 use mathlib.Core.Path.{sym, ap, _∙_}
+use native.Mathlib.Omega.{arith}
 use borrow.Author.Needs.{needs}
 use Rattle.layout.specs.Layout.{written}
 use Rattle.card.specs.declared.Card.{Card}
-use Rattle.file.specs.declared.Total.{Total}
-use Rattle.file.specs.File.{cardIn}
-use Rattle.exercise.specs.Answers.{answers}
 use Rattle.file.specs.Read.{tickCount, drive}
-use Rattle.exercise.proofs.Outcome.{run-number, run-taken, buffer-yes, buffer-no}
+use Rattle.file.proofs.Header.{header-length}
+use Rattle.exercise.specs.Answers.{answers}
+use Rattle.exercise.proofs.Outcome.{refusal-is, taken-by, buffer-yes, buffer-no}
 use Rattle.exercise.proofs.run.Statement.{statement}
 use Rattle.exercise.proofs.run.Tie as tie
 
@@ -15,45 +16,42 @@ exercise-outcome-requires c κs = search needs
 
 returns : tie.Need-returns
 returns c =
-    let e = ap (λ (x : Total). x .refusal) (c .before .before .exercise-outcome .ensures) ∙ run-number _ _ _ in
-    (c .before .before .exercise-outcome .ensures, sym (buffer-no _ _ _ (λ z. c .if1 .taken (e ∙ z))))
+    let outcome = c .before .before .exercise-outcome .ensures in
+    (outcome, sym (buffer-no _ _ _ (λ z. c .if1 .taken (refusal-is _ _ _ _ outcome ∙ z))))
 
-sub-card-at : tie.Need-sub-card-at
-sub-card-at c = run-taken _ _ _ (sym (ap (λ (x : Total). x .refusal) (c .before .before .exercise-outcome .ensures) ∙ run-number _ _ _) ∙ c .if1 .left) .low
+sub-card-in : tie.Need-sub-card-in
+sub-card-in c = taken-by _ _ _ _ (c .before .before .exercise-outcome .ensures) (c .if1 .left) .low
 
-cast-card-at : tie.Need-cast-card-at
-cast-card-at c = search needs
+cast-card-in : tie.Need-cast-card-in
+cast-card-in c = search needs
 
-mul-card-at : tie.Need-mul-card-at
-mul-card-at c = search needs
-
-add-card-at : tie.Need-add-card-at
-add-card-at c = search needs
-
-card-at-requires : tie.Need-card-at-requires
-card-at-requires c κs = search needs
+card-in-requires : tie.Need-card-in-requires
+card-in-requires c κs =
+    let taken = taken-by _ _ _ _ (c .before .before .exercise-outcome .ensures) (c .if1 .left) in
+    let length = header-length _ (taken .header-good) in
+    omega (arith, taken .low, taken .high)
 
 answer-all-requires : tie.Need-answer-all-requires
-unfolding cardIn
 answer-all-requires c κs =
-    let ran = c .before .before .before .before .exercise-outcome .ensures in
-    let e = sym (ap (λ (x : Total). x .refusal) ran ∙ run-number _ _ _) ∙ c .before .before .if1 .left in
-    let t = run-taken _ _ _ e in
-    (rw (c .before .card-at .ensures) (t .card-good), t .runs-good, t .fits)
+    let at-if1 = c .before .before in
+    let taken = taken-by _ _ _ _ (at-if1 .before .before .exercise-outcome .ensures) (at-if1 .if1 .left) in
+    (rw (c .before .card-in .ensures) (taken .card-good), (taken .header-good, (taken .runs-good, taken .fits)))
 
 same-length : tie.Need-same-length
 same-length c = search needs
 
 returns-2 : tie.Need-returns-2
-unfolding cardIn
 returns-2 c =
-    let ran = c .before .before .before .before .before .before .before .exercise-outcome .ensures in
-    let a = c .before .before .before .before .before .before .before .before .before .before .args in
-    let e = sym (ap (λ (x : Total). x .refusal) ran ∙ run-number _ _ _) ∙ c .before .before .before .before .before .if1 .left in (
-      ran,
-      c .before .before .answer-all .ensures
-          ∙ ap (λ (k : Card). written (a .buffer .now) 0 (answers k (drive (a .file .now)) (tickCount (a .file .now)))) (c .before .before .before .before .card-at .ensures)
-          ∙ sym (buffer-yes _ _ _ e),
+    let at-answers = c .before .before in
+    let at-card = at-answers .before .before in
+    let at-if1 = at-card .before in
+    let at-outcome = at-if1 .before .before in
+    let a = at-outcome .before .before .before .args in
+    let outcome = at-outcome .exercise-outcome .ensures in (
+      outcome,
+      at-answers .answer-all .ensures
+          ∙ ap (λ (card : Card). written (a .buffer .now) 0 (answers card (drive (a .file .now)) (tickCount (a .file .now)))) (at-card .card-in .ensures)
+          ∙ sym (buffer-yes _ _ _ (sym (refusal-is _ _ _ _ outcome) ∙ at-if1 .if1 .left)),
     )
 
 pub run-spec : {M : Type 1} → statement M
@@ -62,11 +60,9 @@ run-spec =
     (tie.spec
     exercise-outcome-requires
     returns
-    sub-card-at
-    cast-card-at
-    mul-card-at
-    add-card-at
-    card-at-requires
+    sub-card-in
+    cast-card-in
+    card-in-requires
     answer-all-requires
     same-length
     returns-2)

@@ -1,3 +1,4 @@
+-- `run_fault` gives the number of the run's refusal, by the definition's tests in their order.
 use Rattle.file.specs.Runs.{runFault}
 use borrow.Author.Needs.{needs}
 use Rattle.file.proofs.run_fault.Statement.{statement}

@@ -1,3 +1,4 @@
+-- `all_in_range` tests each record. The loop's invariant: those so far are in range. The measure is how many are left.
 use Prim.Native.Nat.{_≤_, _-_}
 use mathlib.Core.Path.{_≡_, sym, ap, _∙_}
 use mathlib.Core.Bool.{true}
@@ -23,7 +24,7 @@ mul-record-at : tie.Need-mul-record-at Inv-loop μ-loop
 mul-record-at c = omega arith
 
 record-at-requires : tie.Need-record-at-requires Inv-loop μ-loop
-record-at-requires c κs = search needs
+record-at-requires c κs = omega arith
 
 record-in-range-requires : tie.Need-record-in-range-requires Inv-loop μ-loop
 record-in-range-requires c κs = search needs
@@ -31,8 +32,9 @@ record-in-range-requires c κs = search needs
 returns : tie.Need-returns Inv-loop μ-loop
 unfolding records
 returns c =
+    let at-loop-test = c .before .before .before .loop-test in
     let bad = ap recordInRange (sym (c .before .before .record-at .ensures)) ∙ sym (c .before .record-in-range .ensures) ∙ not-true _ (c .if1 .taken) in
-    sym (all-not _ _ _ (c .before .before .before .loop-test .taken) bad)
+    sym (all-not _ _ _ (at-loop-test .taken) bad)
 
 add-i : tie.Need-add-i Inv-loop μ-loop
 add-i c = omega arith
@@ -43,11 +45,14 @@ loop-less c = omega arith
 loop-again : tie.Need-loop-again Inv-loop μ-loop
 unfolding records
 loop-again c =
+    let at-loop = c .before .before .before .before .loop in
     let good = ap recordInRange (sym (c .before .before .record-at .ensures)) ∙ sym (c .before .record-in-range .ensures) ∙ not-false _ (c .if1 .left) in
-    (omega arith, all-more _ _ (c .before .before .before .before .loop .inv .1) good)
+    (omega arith, all-more _ _ (at-loop .inv .1) good)
 
 returns-2 : tie.Need-returns-2 Inv-loop μ-loop
-returns-2 c = let e : c .before .loop .i ≡ c .before .before .before .args .m = omega arith in sym (rw e at (c .before .loop .inv .1))
+returns-2 c =
+    let at-args = c .before .before .before .args in
+    let e : c .before .loop .i ≡ at-args .m = omega arith in sym (rw e at (c .before .loop .inv .1))
 
 pub all-in-range-spec : {M : Type 1} → statement M
 all-in-range-spec =

@@ -1,3 +1,4 @@
+-- `capacity` is the lesser of the two numbers: by arithmetic on either side of the test.
 use Rattle.journal.specs.Journal.{capacity}
 use native.Mathlib.Omega.{arith}
 use borrow.Author.Needs.{needs}

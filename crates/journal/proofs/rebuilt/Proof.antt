@@ -1,3 +1,5 @@
+-- `rebuilt` gives the state and the answer after m records. The loop's invariant: `last` is that after those so far, its state in range.
+-- The measure is how many are left.
 use Prim.Native.Nat.{ℕ, _+_, _≤_, _-_}
 use mathlib.Core.Path.{_≡_, ap, ap₂, sym, _∙_}
 use native.Mathlib.Omega.{arith}
@@ -43,7 +45,7 @@ mul-record-at : tie.Need-mul-record-at Inv-loop μ-loop
 mul-record-at c = omega arith
 
 record-at-requires : tie.Need-record-at-requires Inv-loop μ-loop
-record-at-requires c κs = search needs
+record-at-requires c κs = omega arith
 
 advance-requires : tie.Need-advance-requires Inv-loop μ-loop
 unfolding records
@@ -70,7 +72,8 @@ loop-again c =
 
 returns : tie.Need-returns Inv-loop μ-loop
 returns c =
-    let e : c .before .loop .i ≡ c .before .before .before .before .before .args .m = omega arith in
+    let start = c .before .before .before .before .before in
+    let e : c .before .loop .i ≡ start .args .m = omega arith in
     rw e at (c .before .loop .inv .1)
 
 pub rebuilt-spec : {M : Type 1} → statement M

@@ -1,3 +1,4 @@
+-- `byte_at` gives the byte of a place, 0 past the end.
 use Prim.Native.Nat.{_+_}
 use mathlib.Core.Path.{sym}
 use native.Mathlib.Omega.{arith}

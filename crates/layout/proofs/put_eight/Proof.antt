@@ -1,3 +1,4 @@
+-- `put_eight` writes eight bytes: eight stores are one list written.
 use lib.ListN.{length-set}
 use native.Mathlib.Omega.{arith}
 use borrow.Author.Needs.{needs}

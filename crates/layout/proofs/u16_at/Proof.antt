@@ -1,3 +1,4 @@
+-- `u16_at` gives the u16 of a place: past the end it is 0, and else it is that of the two bytes.
 use mathlib.Core.Path.{sym}
 use native.Mathlib.Nat.{add-assoc}
 use native.Mathlib.Omega.{arith}
@@ -19,32 +20,14 @@ add-byte-at c = search needs
 byte-at-requires-2 : tie.Need-byte-at-requires-2
 byte-at-requires-2 c κs = search needs
 
-cast-result : tie.Need-cast-result
-cast-result c = search needs
-
-cast-result-2 : tie.Need-cast-result-2
-cast-result-2 c = search needs
-
-mul-result : tie.Need-mul-result
-mul-result c = search needs
-
-add-result : tie.Need-add-result
-add-result c = search needs
+u16-of-requires : tie.Need-u16-of-requires
+u16-of-requires c κs = search needs
 
 returns-2 : tie.Need-returns-2
 unfolding u16At
-returns-2 c = rw (add-assoc, ← c .before .byte-at .ensures, ← c .byte-at2 .ensures)
+returns-2 c = rw (add-assoc, ← c .before .before .byte-at .ensures, ← c .before .byte-at2 .ensures) (c .u16-of .ensures)
 
 pub u16-at-spec : {M : Type 1} → statement M
 u16-at-spec =
     tie.close
-    (tie.spec
-    returns
-    byte-at-requires
-    add-byte-at
-    byte-at-requires-2
-    cast-result
-    cast-result-2
-    mul-result
-    add-result
-    returns-2)
+    (tie.spec returns byte-at-requires add-byte-at byte-at-requires-2 u16-of-requires returns-2)

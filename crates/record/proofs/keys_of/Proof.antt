@@ -1,3 +1,4 @@
+-- `keys_of` gives the definition's keys: the two compute to one another.
 use Rattle.record.specs.Flags.{keysOf, pressed}
 use mathlib.Core.Path.{refl}
 use Rattle.record.proofs.keys_of.Statement.{statement}

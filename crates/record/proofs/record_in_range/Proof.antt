@@ -1,3 +1,4 @@
+-- `record_in_range` makes the definition's test: the two compute to one another.
 use Rattle.record.specs.Record.{recordInRange}
 use mathlib.Core.Path.{refl}
 use Rattle.record.proofs.record_in_range.Statement.{statement}

@@ -1,3 +1,4 @@
+-- `record_refusal` gives the definition's number on either side of the test.
 use Rattle.record.specs.Sample.{recordRefusal}
 use borrow.Author.Needs.{needs}
 use Rattle.record.proofs.record_refusal.Statement.{statement}

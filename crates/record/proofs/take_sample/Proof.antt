@@ -1,3 +1,4 @@
+-- `take_sample` gives the definition's record and number: what each call gives is put in its place.
 use Rattle.record.specs.Sample.{sampleRefusal, sampleRecord}
 use borrow.Author.Needs.{needs}
 use Rattle.record.proofs.take_sample.Statement.{statement}
@@ -41,7 +42,16 @@ returns c =
     let c3 = c4 .before in
     let c2 = c3 .before in
     let c1 = c2 .before in
-    (simp (← c .first-refusal2 .ensures, ← c8 .first-refusal .ensures, ← c7 .record-refusal .ensures, ← c6 .pressure-refusal .ensures, ← c5 .speed-refusal .ensures, ← c4 .pressure-band .ensures, ← c3 .speed-value .ensures, ← c2 .pressure-of .ensures, ← c1 .speed-of .ensures), simp (← c4 .pressure-band .ensures, ← c3 .speed-value .ensures, ← c2 .pressure-of .ensures, ← c1 .speed-of .ensures))
+    let speed = c1 .speed-of .ensures in
+    let pressure = c2 .pressure-of .ensures in
+    let v = c3 .speed-value .ensures in
+    let band = c4 .pressure-band .ensures in
+    let first = c5 .speed-refusal .ensures in
+    let second = c6 .pressure-refusal .ensures in
+    let third = c7 .record-refusal .ensures in (
+      simp (← c .first-refusal2 .ensures, ← c8 .first-refusal .ensures, ← third, ← second, ← first, ← band, ← v, ← pressure, ← speed),
+      simp (← band, ← v, ← pressure, ← speed),
+    )
 
 pub take-sample-spec : {M : Type 1} → statement M
 take-sample-spec =

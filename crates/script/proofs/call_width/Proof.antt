@@ -1,3 +1,4 @@
+-- `call_width` gives the definition's width, by the kind of the call.
 use borrow.Author.Tests.{ne-eqb}
 use Rattle.script.specs.Call.{callWidth}
 use borrow.Author.Needs.{needs}

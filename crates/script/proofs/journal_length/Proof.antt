@@ -1,3 +1,4 @@
+-- `journal_length` gives the u16 behind the card.
 use Rattle.script.specs.Call.{journalLength}
 use native.Mathlib.Nat.{add-zero}
 use borrow.Author.Needs.{needs}

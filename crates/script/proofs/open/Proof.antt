@@ -1,3 +1,4 @@
+-- `open` replies as the definition says, on either side of the test of the header's length.
 use Rattle.script.specs.Call.{openReply}
 use borrow.Author.Tests.{le-ltb, lt-ltb}
 use borrow.Author.Needs.{needs}

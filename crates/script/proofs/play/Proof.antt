@@ -1,3 +1,4 @@
+-- `play` replies and writes as the definitions say, by the kind of the call.
 use Rattle.script.specs.Call.{playReply, playJournal}
 use borrow.Author.Tests.{eq-eqb, le-ltb, lt-ltb, ne-eqb}
 use borrow.Author.Needs.{needs}
@@ -89,9 +90,10 @@ returns-4 c =
 returns-5 : tie.Need-returns-5
 unfolding playReply playJournal
 returns-5 c =
-    let w = c .before .before .before .before in
+    let i = c .before .before .before in
+    let w = i .before in
     let kind = w .before .byte-at .ensures in
-    let whole = le-ltb _ _ (c .before .before .before .if1 .left) in
+    let whole = le-ltb _ _ (i .if1 .left) in
     let no = ne-eqb _ _ (c .before .before .if2 .left) in
     let nor = ne-eqb _ _ (c .before .if3 .left) in
     let neither = ne-eqb _ _ (c .if4 .left) in (

@@ -1,3 +1,4 @@
+-- `sample_at` gives the definition's sample: each field is read from its place.
 use mathlib.Core.Path.{ap, _∙_}
 use native.Mathlib.Nat.{add-zero}
 use denote.Ref.{now}
@@ -44,7 +45,8 @@ returns c =
     let speed = pressure .before .before in
     let a = speed .before .before .before .args in
     let first = speed .before .u32-at .ensures ∙ ap (u32At (now (a .bytes))) (add-zero (a .at)) in
-    rw (← first, ← speed .float-of-bits .ensures, ← pressure .before .u32-at2 .ensures, ← pressure .float-of-bits2 .ensures, ← c1 .byte-at .ensures, ← c2 .byte-at2 .ensures, ← c3 .byte-at3 .ensures, ← c4 .byte-at4 .ensures, ← c .byte-at5 .ensures)
+    rw (← first, ← speed .float-of-bits .ensures, ← pressure .before .u32-at2 .ensures, ← pressure .float-of-bits2 .ensures)
+    (rw (← c1 .byte-at .ensures, ← c2 .byte-at2 .ensures, ← c3 .byte-at3 .ensures, ← c4 .byte-at4 .ensures, ← c .byte-at5 .ensures))
 
 pub sample-at-spec : {M : Type 1} → statement M
 sample-at-spec =

@@ -1,3 +1,4 @@
+-- `u32_at` gives the u32 of its two u16.
 use Rattle.script.specs.Sample.{u32At}
 use native.Mathlib.Nat.{add-assoc}
 use borrow.Author.Needs.{needs}

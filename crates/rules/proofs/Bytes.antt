@@ -1,0 +1,25 @@
+-- An answer that is put among bytes, where it fits, is read back.
+-- From the law of `put` and, byte by byte, those of `written`. Assumes nothing.
+use Prim.Native.Nat.{ℕ, _+_, _≤_, _<_}
+use native.Mathlib.Nat.{add-zero}
+use native.Mathlib.Omega.{arith}
+use mathlib.Core.Path.{_≡_, refl}
+use mathlib.Core.List.{List}
+use lib.ListN.{length, getD}
+use Rattle.layout.specs.Layout.{u16At, written}
+use Rattle.layout.proofs.Put.{put-fits}
+use Rattle.layout.proofs.Written.{written-at}
+use Rattle.layout.proofs.U16.{u16At-among}
+use Rattle.rules.specs.declared.Answer.{Answer}
+use Rattle.rules.specs.Answer.{answerWidth, answerBytes, answerAt, putAnswer}
+
+pub put-back : (J : List ℕ) (at : ℕ) (a : Answer) → at + answerWidth ≤ length J → a .permitted < 65536 → a .target < 65536
+    → answerAt (putAnswer J at a) at ≡ a
+unfolding answerAt putAnswer
+put-back J at a fits small small-too =
+    let new : List ℕ = written J at (answerBytes a) in
+    let byte : (j : ℕ) → j < answerWidth → getD new (at + j) 0 ≡ getD (answerBytes a) j 0 = written-at J at (answerBytes a) fits in
+    let first : u16At new at ≡ a .permitted =
+    rw add-zero at (u16At-among J at (answerBytes a) fits 0 (a .permitted) (omega arith) small refl refl) in
+    let second : u16At new (at + 2) ≡ a .target = u16At-among J at (answerBytes a) fits 2 (a .target) (omega arith) small-too refl refl in
+    rw (put-fits J at (answerBytes a) fits, first, second, byte 4 (omega arith), byte 5 (omega arith), byte 6 (omega arith), byte 7 (omega arith))
