@@ -62,7 +62,7 @@ module _ (file : List ℕ) (card room : ℕ) where
       unfolding exerciseRefusal exerciseOutcome
       run-by-none l = rw (first-of-three, h, first-zero, k, first-zero, le-ltb _ _ l)
 
-  run-number : exerciseOutcome file card room .refusal ≡ exerciseRefusal file card room
+  pub run-number : exerciseOutcome file card room .refusal ≡ exerciseRefusal file card room
   unfolding exerciseOutcome
   run-number = go (eqb (exerciseRefusal file card room) 0) refl
     where
@@ -79,7 +79,7 @@ pub record RunTaken (file : List ℕ) (card room : ℕ) : Type 0 where
   pub runs-good : runsRefusal file (runCount file) ≡ 0
   pub fits : answerWidth * tickCount file ≤ room
 
-run-taken : (file : List ℕ) (card room : ℕ) → exerciseRefusal file card room ≡ 0 → RunTaken file card room
+pub run-taken : (file : List ℕ) (card room : ℕ) → exerciseRefusal file card room ≡ 0 → RunTaken file card room
 unfolding exerciseRefusal
 run-taken file card room e =
     let a = both-zero (headRefusal file) _ e in
