@@ -1,13 +1,15 @@
--- A card that is put among bytes: they stay as many, and where it fits it is read back.
+-- A card that is put among bytes: they stay as many, it is read back where it fits, and one that is read and put again changes nothing.
 -- From the laws of `put` and, field by field, of `written`. Assumes nothing.
 use Prim.Native.Nat.{ℕ, _+_, _≤_, _<_}
 use native.Mathlib.Nat.{add-zero}
 use native.Mathlib.Omega.{arith}
 use mathlib.Core.Path.{_≡_, refl}
-use mathlib.Core.List.{List, flatMap}
-use lib.ListN.{length}
-use Rattle.layout.specs.Layout.{u16At, written}
+use mathlib.Core.List.{List, _++_, flatMap}
+use lib.ListN.{length, drop}
+use Rattle.layout.specs.Layout.{u16At, u16Bytes, written}
 use Rattle.layout.proofs.Put as put
+use Rattle.layout.proofs.Again.{Bytes, next-u16}
+use Rattle.layout.proofs.Again as again
 use Rattle.layout.proofs.U16.{u16At-among}
 use Rattle.card.specs.declared.Card.{Card}
 use Rattle.card.specs.Card.{cardWidth, cardBytes, cardAt, putCard}
@@ -48,3 +50,13 @@ module _ (J : List ℕ) (at : ℕ) (c : Card) where
         u16At-among J at (cardBytes c) fits 16 (c .cycle) (omega arith) (small .cycle-u16) refl refl,
         u16At-among J at (cardBytes c) fits 18 (c .wait) (omega arith) (small .wait-u16) refl refl,
       ))
+
+-- a card that is read and put again changes no byte
+pub put-again : (J : List ℕ) (at : ℕ) → at + cardWidth ≤ length J → Bytes J → putCard J at (cardAt J at) ≡ J
+unfolding cardAt putCard flatMap
+put-again J at fits small =
+    let next : (k : ℕ) → at + (k + 1) < length J → drop (at + k) J ≡ u16Bytes (u16At J (at + k)) ++ drop (at + (k + 2)) J = next-u16 J at small in
+    let first : drop at J ≡ u16Bytes (u16At J at) ++ drop (at + 2) J = rw add-zero at (next 0 (omega arith)) in
+    again.put-again J at (cardBytes (cardAt J at)) fits
+    (rw (first, next 2 (omega arith), next 4 (omega arith), next 6 (omega arith), next 8 (omega arith))
+    (rw (next 10 (omega arith), next 12 (omega arith), next 14 (omega arith), next 16 (omega arith), next 18 (omega arith))))

@@ -1,15 +1,18 @@
--- A record that is put among bytes: they stay as many, no other byte changes, it is read back, and one that ends before it is as it was.
+-- A record that is put among bytes: they stay as many, no other byte changes, it is read back, and one that ends before it is as it was;
+-- one that is read and put again changes nothing.
 -- From the laws of `put` and, byte by byte, of `written`. Assumes nothing.
 use Prim.Native.Nat.{ℕ, _+_, _≤_, _<_}
 use native.Mathlib.Nat.{add-zero}
 use native.Mathlib.Omega.{arith}
 use mathlib.Core.Path.{_≡_}
 use mathlib.Core.Logic.{_⊎_, inl}
-use mathlib.Core.List.{List}
-use lib.ListN.{length, getD}
-use Rattle.layout.specs.Layout.{u16At, written}
+use mathlib.Core.List.{List, _∷_, _++_}
+use lib.ListN.{length, getD, drop}
+use Rattle.layout.specs.Layout.{u16At, u16Bytes, written}
 use Rattle.layout.proofs.Written.{written-at}
 use Rattle.layout.proofs.Put as put
+use Rattle.layout.proofs.Again.{Bytes, next-byte, next-u16}
+use Rattle.layout.proofs.Again as again
 use Rattle.layout.proofs.U16.{u16At-bytes}
 use Rattle.record.specs.declared.Record.{Record}
 use Rattle.record.specs.Record.{recordWidth, recordBytes, recordAt, putRecord}
@@ -47,3 +50,13 @@ module _ (J : List ℕ) (at : ℕ) (r : Record) where
       let speed : u16At new at ≡ r .v = u16At-bytes new at (r .v) small (rw add-zero at (byte 0 (omega arith))) (byte 1 (omega arith)) in
       rw (put-fits fits, speed, byte 2 (omega arith), byte 3 (omega arith))
       (rw (byte 4 (omega arith), byte 5 (omega arith), byte 6 (omega arith), byte 7 (omega arith)))
+
+-- a record that is read and put again changes no byte
+pub put-again : (J : List ℕ) (at : ℕ) → at + recordWidth ≤ length J → Bytes J → putRecord J at (recordAt J at) ≡ J
+unfolding recordAt putRecord
+put-again J at fits small =
+    let next : (k : ℕ) → at + k < length J → drop (at + k) J ≡ getD J (at + k) 0 ∷ drop (at + (k + 1)) J = next-byte J at in
+    let first : drop at J ≡ u16Bytes (u16At J at) ++ drop (at + 2) J = rw add-zero at (next-u16 J at small 0 (omega arith)) in
+    again.put-again J at (recordBytes (recordAt J at)) fits
+    (rw (first, next 2 (omega arith), next 3 (omega arith), next 4 (omega arith))
+    (rw (next 5 (omega arith), next 6 (omega arith), next 7 (omega arith))))

@@ -1,13 +1,15 @@
--- An answer that is put among bytes, where it fits, is read back.
+-- An answer that is put among bytes, where it fits, is read back; one that is read and put again changes nothing.
 -- From the law of `put` and, byte by byte, those of `written`. Assumes nothing.
 use Prim.Native.Nat.{ℕ, _+_, _≤_, _<_}
 use native.Mathlib.Nat.{add-zero}
 use native.Mathlib.Omega.{arith}
 use mathlib.Core.Path.{_≡_, refl}
-use mathlib.Core.List.{List}
-use lib.ListN.{length, getD}
-use Rattle.layout.specs.Layout.{u16At, written}
+use mathlib.Core.List.{List, _∷_, _++_}
+use lib.ListN.{length, getD, drop}
+use Rattle.layout.specs.Layout.{u16At, u16Bytes, written}
 use Rattle.layout.proofs.Put.{put-fits}
+use Rattle.layout.proofs.Again.{Bytes, next-byte, next-u16}
+use Rattle.layout.proofs.Again as again
 use Rattle.layout.proofs.Written.{written-at}
 use Rattle.layout.proofs.U16.{u16At-among}
 use Rattle.rules.specs.declared.Answer.{Answer}
@@ -23,3 +25,12 @@ put-back J at a fits small small-too =
     rw add-zero at (u16At-among J at (answerBytes a) fits 0 (a .permitted) (omega arith) small refl refl) in
     let second : u16At new (at + 2) ≡ a .target = u16At-among J at (answerBytes a) fits 2 (a .target) (omega arith) small-too refl refl in
     rw (put-fits J at (answerBytes a) fits, first, second, byte 4 (omega arith), byte 5 (omega arith), byte 6 (omega arith), byte 7 (omega arith))
+
+-- an answer that is read and put again changes no byte
+pub put-again : (J : List ℕ) (at : ℕ) → at + answerWidth ≤ length J → Bytes J → putAnswer J at (answerAt J at) ≡ J
+unfolding answerAt putAnswer
+put-again J at fits small =
+    let next : (k : ℕ) → at + k < length J → drop (at + k) J ≡ getD J (at + k) 0 ∷ drop (at + (k + 1)) J = next-byte J at in
+    let first : drop at J ≡ u16Bytes (u16At J at) ++ drop (at + 2) J = rw add-zero at (next-u16 J at small 0 (omega arith)) in
+    again.put-again J at (answerBytes (answerAt J at)) fits
+    (rw (first, next-u16 J at small 2 (omega arith), next 4 (omega arith), next 5 (omega arith), next 6 (omega arith), next 7 (omega arith)))
