@@ -27,7 +27,7 @@ for edit in crates/*/must-fail/*.edit; do
     name=${name/\/must-fail/}
     grep -qF "\`${name%.edit}\`" docs/CONTRACTS.md || miss "not in CONTRACTS.md: ${name%.edit}"
 done
-for page in README.md docs/*.md docs/changes/*.md texts/*.md; do
+for page in README.md docs/*.md docs/changes/*.md texts/*.md tests/*.md; do
     for link in $(grep -o '](\([^)]*\))' "$page" | sed 's/^](//; s/)$//'); do
         [ -e "$(dirname "$page")/$link" ] || miss "$page: no $link"
     done

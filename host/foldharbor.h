@@ -141,7 +141,7 @@ enum {
  */
 enum { /* places in an answer; the first two have 16 bits, the others 8 */
     FOLDHARBOR_ANSWER_PERMITTED = 0, /* permitted speed P */
-    FOLDHARBOR_ANSWER_TARGET = 2,    /* target speed T of the signal code; 0 outside mode PRE */
+    FOLDHARBOR_ANSWER_TARGET = 2,    /* target speed T of the signal code, with the raises by PLUS; 0 outside mode PRE */
     FOLDHARBOR_ANSWER_MARKS = 4,
     FOLDHARBOR_ANSWER_CAUSES = 5, /* that are held */
     FOLDHARBOR_ANSWER_LOWEST = 6, /* number of the lowest held cause, 1 to 5; 0 if none is held */
@@ -158,7 +158,7 @@ enum { /* bits of the marks */
 enum { /* bits of the causes */
     FOLDHARBOR_NZ1 = 1 << 0, /* vigilance not confirmed in time */
     FOLDHARBOR_NZ2 = 1 << 1, /* faster than the permitted speed and the tolerance */
-    FOLDHARBOR_NZ3 = 1 << 2, /* moved against the direction set */
+    FOLDHARBOR_NZ3 = 1 << 2, /* moved 10 m against the lever, or without cab on */
     FOLDHARBOR_NZ4 = 1 << 3, /* stopped from outside */
     FOLDHARBOR_NZ5 = 1 << 4  /* stood too long with the brakes released */
 };

@@ -1,5 +1,5 @@
--- Our functions as the demands speak of calls: what a function may return is what its contract allows, as the check reads it off the source (`Post`).
--- `now` is what a lent slice holds. Each contract is an equation: the laws below take it out, and nothing else of the relations is used.
+-- Our functions as the demands speak of calls: what a function asks and what it may return is what its contract says, as the check reads it off the
+-- source (`Asked` and `Post` of the generated module `Reads`). `now` is what a lent slice holds. Each contract is an equation: the laws below take it out, and nothing else of the relations is used.
 use Prim.Native.Nat.{ℕ}
 use mathlib.Core.Path.{_≡_, refl, sym, ap, ap₂, _∙_}
 use mathlib.Core.List.{List, []}
@@ -35,18 +35,27 @@ pub functions : Functions
 functions =
     record {
       opens = λ card out. (κs : Lfts 0) × (exit : _) × opening.Post κs (card, tt) out exit;
+      opens-asks = λ card. (κs : Lfts 0) → opening.Asked κs (card, tt);
       ticks = λ desk sample journal out left.
           (κs : Lfts 1) × (j : Lent journal) × (exit : _) × ticking.Post κs (desk, (sample, (j .0, tt))) out exit × (now (exit .1 .1 .0) ≡ left);
+      ticks-asks = λ desk sample journal. (κs : Lfts 1) (j : Lent journal) → ticking.Asked κs (desk, (sample, (j .0, tt)));
       steps-back = λ desk k journal out.
           (κs : Lfts 1) × (j : Lent journal) × (exit : _) × backing.Post κs (desk, (k, (j .0, tt))) out exit;
+      steps-back-asks = λ desk k journal. (κs : Lfts 1) (j : Lent journal) → backing.Asked κs (desk, (k, (j .0, tt)));
       restarts = λ desk out. (κs : Lfts 0) × (exit : _) × restarting.Post κs (desk, tt) out exit;
+      restarts-asks = λ desk. (κs : Lfts 0) → restarting.Asked κs (desk, tt);
       reads = λ file counts. (κs : Lfts 1) × (f : Lent file) × (exit : _) × reading.Post κs (f .0, tt) counts exit;
+      reads-asks = λ file. (κs : Lfts 1) (f : Lent file) → reading.Asked κs (f .0, tt);
       runs = λ file card buffer total left.
           (κs : Lfts 2) × (f : Lent file) × (b : Lent buffer) × (exit : _)
           × running.Post κs (f .0, (card, (b .0, tt))) total exit × (now (exit .1 .1 .0) ≡ left);
+      runs-asks = λ file card buffer.
+          (κs : Lfts 2) (f : Lent file) (b : Lent buffer) → running.Asked κs (f .0, (card, (b .0, tt)));
       hosts = λ file card buffer number left.
           (κs : Lfts 2) × (f : Lent file) × (b : Lent buffer) × (exit : _)
           × hosting.Post κs (f .0, (card, (b .0, tt))) number exit × (now (exit .1 .1 .0) ≡ left);
+      hosts-asks = λ file card buffer.
+          (κs : Lfts 2) (f : Lent file) (b : Lent buffer) → hosting.Asked κs (f .0, (card, (b .0, tt)));
     }
 
 -- ---- the equations of the contracts
@@ -88,26 +97,33 @@ module _ (file : List ℕ) (card : ℕ) (buffer left : List ℕ) where
     sym (f .5) ∙ f .4 .1 ∙ ap₂ (λ (a b : List ℕ). exerciseBuffer a card b) (f .1 .1) (f .2 .1),
   )
 
--- ---- and something meets them, whatever is handed over
+-- ---- nothing is asked, and something meets them, whatever is handed over
 abbrev lent : (bytes : List ℕ) → Lent bytes
 lent bytes = (record { ptr = (0, 0); name = 0; now = bytes }, refl)
 
 pub returning : Returning functions
 unfolding functions
 returning = record {
-  opening = λ card. (openOutcome card, (tt, (card, tt), refl));
-  tick = λ d x J. (tickOutcome d x J, tickJournal d x J, (([], tt), lent J, (d, (x, (lent (tickJournal d x J) .0, tt))), (refl, refl), refl));
-  step-back = λ d k J. (backOutcome d k J, (([], tt), lent J, (d, (k, (lent J .0, tt))), refl));
-  restart = λ d. (restartOutcome d, (tt, (d, tt), refl));
-  reader = λ file. (readOutcome file, (([], tt), lent file, (lent file .0, tt), refl));
+  opening = λ card. (λ κs. tt, openOutcome card, (tt, (card, tt), refl));
+  tick = λ d x J. (
+    λ κs j. tt,
+    tickOutcome d x J,
+    tickJournal d x J,
+    (([], tt), lent J, (d, (x, (lent (tickJournal d x J) .0, tt))), (refl, refl), refl),
+  );
+  step-back = λ d k J. (λ κs j. tt, backOutcome d k J, (([], tt), lent J, (d, (k, (lent J .0, tt))), refl));
+  restart = λ d. (λ κs. tt, restartOutcome d, (tt, (d, tt), refl));
+  reader = λ file. (λ κs f. tt, readOutcome file, (([], tt), lent file, (lent file .0, tt), refl));
   exercise = λ file card B.
       let C = exerciseBuffer file card B in (
+        λ κs f b. tt,
         exerciseOutcome file card (length B),
         C,
         (([], ([], tt)), lent file, lent B, (lent file .0, (card, (lent C .0, tt))), (refl, refl), refl),
       );
   host = λ file card B.
       let C = exerciseBuffer file card B in (
+        λ κs f b. tt,
         hostNumber (exerciseOutcome file card (length B)),
         C,
         (([], ([], tt)), lent file, lent B, (lent file .0, (card, (lent C .0, tt))), (refl, refl), refl),

@@ -132,7 +132,7 @@ module _ (file : List ℕ) where
           → (b : Bool) → recordInRange (runRecord file m) ≡ b → Run (suc m)
       here z f true p b q = ticks (rw (z, p, first-zero)) m (omega arith) f (bad-ticks m .0 p)
       here z f false p true q =
-          all (rw (z, p, q, first-zero)) (fit-more m f (record { ticks = λ h. false≢true (sym p ∙ bad-ticks m .1 h); good = record-fits _ .0 q }))
+          all (rw (z, p, q, first-zero)) (fit-more m f (record { ticks = λ h. false≢true (sym p ∙ bad-ticks m .1 h); record-fits = record-fits _ .0 q }))
       here z f false p false q =
           record-of (rw (z, p, q, first-zero)) m (omega arith) f (λ h. false≢true (sym p ∙ bad-ticks m .1 h))
           (λ h. false≢true (sym q ∙ record-fits _ .1 h))
@@ -150,12 +150,12 @@ module _ (file : List ℕ) where
       apart : (i j : ℕ) → Fit i → (BadTicks file i → ⊥) → (RecordFits (runRecord file i) → ⊥) → Fit j → BadTicks file j → ⊥
       apart i j f n r g b =
           ⊎-elim
-          (λ (h : i ≤ j). ⊎-elim (λ (e : i ≡ j). n (rw e b)) (λ (l : i < j). r (g i l .good)) (eq-or-lt-of-le h))
+          (λ (h : i ≤ j). ⊎-elim (λ (e : i ≡ j). n (rw e b)) (λ (l : i < j). r (g i l .record-fits)) (eq-or-lt-of-le h))
           (λ (l : j < i). f j l .ticks b)
           (le-or-lt i j)
 
       go : Run (runCount file) → First (runsRefusal file (runCount file)) (reason 11 (TicksFirst file) (reason 9 (RecordFirst file) none))
-      go (all z f) = inr (λ t. f (t .0) (t .1) .ticks (t .3), inr (λ r. r .4 (f (r .0) (r .1) .good), z))
+      go (all z f) = inr (λ t. f (t .0) (t .1) .ticks (t .3), inr (λ r. r .4 (f (r .0) (r .1) .record-fits), z))
       go (ticks e j l f b) = inl ((j, l, f, b), e)
       go (record-of e j l f n r) = inr (λ t. apart j (t .0) f n r (t .2) (t .3), inl ((j, l, f, n, r), e))
 

@@ -1,5 +1,6 @@
--- Demand 1: every call returns, whatever is handed over; refused, it returns a number of its list and, from a call on a desk, zeros and the desk
--- handed in, and every lent byte keeps its value. (That the code comes to its end is what the check proves of every function.)
+-- Demand 1: every call asks nothing of its caller and returns, whatever is handed over; refused, it returns a number of its list and, from a call on a
+-- desk, an answer of zeros and the desk handed in (a desk of zeros at opening), and every lent byte keeps its value.
+-- That the code comes to its end is what the check proves of every function.
 use Prim.Native.Nat.{ℕ, _<_}
 use mathlib.Core.Path.{_≡_}
 use mathlib.Core.Logic.{_⊎_}
@@ -13,23 +14,28 @@ use Rattle.file.specs.declared.Total.{Total}
 use Rattle.demands.specs.Functions.{Functions}
 use Rattle.demands.specs.Ranges.{zeroDesk, zeroAnswer}
 
+-- whatever is handed over, the call may be made, and something is returned that its contract allows
 pub record Returning (F : Functions) : Type 0 where
-  pub opening : (card : Card) → (out : Outcome) × F .opens card out
-  pub tick : (desk : Desk) (sample : Sample) (journal : List ℕ) → (out : Outcome) × (left : List ℕ) × F .ticks desk sample journal out left
-  pub step-back : (desk : Desk) (k : ℕ) (journal : List ℕ) → (out : Outcome) × F .steps-back desk k journal out
-  pub restart : (desk : Desk) → (out : Outcome) × F .restarts desk out
-  pub reader : (file : List ℕ) → (counts : Counts) × F .reads file counts
-  pub exercise : (file : List ℕ) (card : ℕ) (buffer : List ℕ) → (total : Total) × (left : List ℕ) × F .runs file card buffer total left
-  pub host : (file : List ℕ) (card : ℕ) (buffer : List ℕ) → (number : ℕ) × (left : List ℕ) × F .hosts file card buffer number left
+  pub opening : (card : Card) → F .opens-asks card × (out : Outcome) × F .opens card out
+  pub tick : (desk : Desk) (sample : Sample) (journal : List ℕ) → F .ticks-asks desk sample journal
+      × (out : Outcome) × (left : List ℕ) × F .ticks desk sample journal out left
+  pub step-back : (desk : Desk) (k : ℕ) (journal : List ℕ) → F .steps-back-asks desk k journal
+      × (out : Outcome) × F .steps-back desk k journal out
+  pub restart : (desk : Desk) → F .restarts-asks desk × (out : Outcome) × F .restarts desk out
+  pub reader : (file : List ℕ) → F .reads-asks file × (counts : Counts) × F .reads file counts
+  pub exercise : (file : List ℕ) (card : ℕ) (buffer : List ℕ) → F .runs-asks file card buffer
+      × (total : Total) × (left : List ℕ) × F .runs file card buffer total left
+  pub host : (file : List ℕ) (card : ℕ) (buffer : List ℕ) → F .hosts-asks file card buffer
+      × (number : ℕ) × (left : List ℕ) × F .hosts file card buffer number left
 
 unfoldable pub OneOf : List ℕ → ℕ → Type 0
 OneOf [] x = ⊥
 OneOf (number ∷ numbers) x = (x ≡ number) ⊎ OneOf numbers x
 
 -- what a refused call returns: one of the numbers, this desk, an answer of zeros
-pub record Refused (numbers : List ℕ) (handed : Desk) (out : Outcome) : Type 0 where
+pub record Refused (numbers : List ℕ) (back : Desk) (out : Outcome) : Type 0 where
   pub number : OneOf numbers (out .refusal)
-  pub desk : out .desk ≡ handed
+  pub desk : out .desk ≡ back
   pub answer : out .answer ≡ zeroAnswer
 
 pub record Demand1 (F : Functions) : Type 0 where

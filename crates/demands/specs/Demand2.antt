@@ -1,5 +1,6 @@
 -- Demand 2: an accepted tick gives exactly the answer and the desk of the rules, and a desk in range again; each refusal is given exactly when
 -- the paper says. The same of every other call. The rules are `advance`, a tick; `after`, a fresh state fed so many records; `answers`, their bytes.
+-- Where a record, a card or a run lies among bytes is said by record/specs/Record.antt and file/specs/File.antt.
 use Prim.Native.Nat.{ℕ, _+_, _-_, _*_, _≤_}
 use mathlib.Core.Path.{_≡_}
 use mathlib.Core.List.{List, _++_}

@@ -96,7 +96,8 @@ module _ (F : Functions) where
   NoneLeft drive =
       (out : Outcome) (left : List ℕ) → Returns drive (Back (length (drive .kept))) out left → out .answer ≡ zeroAnswer
 
--- for every opening that was not refused, all calls, and any two journals of one length, whatever they hold
+-- for every opening that was not refused, all calls, and any two journals of one length, whatever they hold.
+-- That there are such drives is demand 1: every call returns something
 abbrev pub Demand3 : Functions → Type 0
 Demand3 F =
     (card : Card) (out : Outcome) (journal : List ℕ) (calls : List Call) (outs : List Outcome) (drive : Drive) →

@@ -40,23 +40,29 @@ pub record DeskFits (desk : Desk) : Type 0 where
   -- the last three buttons
   pub buttons : desk .state .buttons ≤ 7
   pub last-code : desk .state .signal .codes .last ≤ 4
-  -- k, g
+  -- k
   pub gap-code : desk .state .signal .codes .interrupted ≤ 4
+  -- g
   pub gap : desk .state .signal .codes .gap ≤ 51
   pub raise : desk .state .signal .codes .raise ≤ 4
-  -- V0, c, M, w
+  -- V0
   pub curve-start : desk .state .signal .curve .start ≤ 2500
+  -- c
   pub curve-age : desk .state .signal .curve .age ≤ 5000
+  -- M
   pub man-speed : desk .state .signal .man ≤ 2500
+  -- w
   pub one-time-given : desk .state .signal .curve .prompted ≤ 1
-  -- u and its kind
+  -- u
   pub one-time-prompt : desk .state .prompt .ticks ≤ 35
+  -- the kind of u
   pub one-time-kind : desk .state .prompt .kind ≤ 1
-  -- the kind of cyclic vigilance and q
   pub vigilance-kind : desk .state .cyclic .kind ≤ 2
+  -- q
   pub vigilance-ticks : desk .state .cyclic .ticks ≤ 599
-  -- d, h
+  -- d
   pub wrong-way : desk .state .wrongway ≤ 3600
+  -- h
   pub standing : desk .state .standing ≤ 1000
   pub causes : desk .state .causes ≤ 31
 

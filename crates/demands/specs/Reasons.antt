@@ -13,9 +13,10 @@ use Rattle.record.specs.Record.{recordAt}
 use Rattle.desk.specs.declared.Desk.{Desk}
 use Rattle.file.specs.File.{cardCount, runCount, cardIn, runTicks, runRecord}
 use Rattle.file.specs.Runs.{ticksTo}
+use Rattle.file.specs.Read.{tickCount}
 use Rattle.demands.specs.Ranges.{Between, CardFits, RecordFits, DeskFits}
 
--- a number of refusal with its reason
+-- numbers of refusal with their reasons, in the order in which they are looked for
 pub data Reasons : Type 1 where
   none : Reasons
   reason : ℕ → Type 0 → Reasons → Reasons
@@ -35,7 +36,7 @@ ExactlyWhen = ExactlyFrom (Unit {0})
 abbrev pub FloorOf : ℕ → ℕ → ℕ → Type 0
 FloorOf n d v = (2 * d * v ≤ 72 * n + d) × (72 * n + d < 2 * d * (v + 1))
 
--- a finite float is ± m * 2 ^ e, and 2 ^ e is up e / down e. Minus zero counts as zero
+-- a finite float is ± m * 2 ^ e, and 2 ^ e is up e / down e. Minus zero counts as zero; any other number with a minus is a bad speed, below
 unfoldable pub SpeedIs : Float → ℕ → Type 0
 SpeedIs nan v = ⊥
 SpeedIs (inf minus) v = ⊥
@@ -74,7 +75,7 @@ pub record SwitchesFit (sample : Sample) : Type 0 where
 abbrev pub openReasons : Card → Reasons
 openReasons card = reason 4 (CardFits card → ⊥) none
 
--- capacity is the lesser of 7,200 and journal length / 8, whole
+-- capacity is the lesser of 7,200 and journal length / 8, rounded down
 abbrev pub tickReasons : Desk → Sample → List ℕ → Reasons
 tickReasons desk sample journal =
     reason 5 (DeskFits desk → ⊥)
@@ -116,7 +117,7 @@ module _ (file : List ℕ) where
 
   pub record RunFits (j : ℕ) : Type 0 where
     pub ticks : BadTicks j → ⊥
-    pub good : RecordFits (runRecord file j)
+    pub record-fits : RecordFits (runRecord file j)
 
   -- each run in turn 11 then 9: of the first run that does not fit
   abbrev pub TicksFirst : Type 0
@@ -140,4 +141,4 @@ module _ (file : List ℕ) where
       (reason 13 (Between 1 card (cardCount file) → ⊥)
       (reason 11 TicksFirst
       (reason 9 RecordFirst
-      (reason 12 (length buffer < 8 * ticksTo file (runCount file)) none)))))
+      (reason 12 (length buffer < 8 * tickCount file) none)))))

@@ -20,7 +20,7 @@ held out = listed (heldIn (out .desk .state .causes))
 
 pub record ValveIs (out : Outcome) : Type 0 where
   pub by-causes : (valveOpen (out .answer) ≡ true) ↔ (held out ≡ [] → ⊥)
-  pub by-byte : (valveOpen (out .answer) ≡ true) ↔ (out .answer .causes ≡ 0 → ⊥)
+  pub by-byte : (out .answer .causes ≡ 0) ↔ (held out ≡ [])
   pub byte : out .answer .causes ≡ out .desk .state .causes
   pub lowest : out .answer .lowest ≡ firstOr 0 (held out)
   pub count : out .answer .held ≡ length (held out)
