@@ -17,7 +17,7 @@ use record::Record;
 pub struct Codes {
     // the last code
     pub last: u8,
-    // k, the code before a gap
+    // k, the code that a gap interrupted
     pub interrupted: u8,
     // g, the gap in ticks
     pub gap: u8,

@@ -16,7 +16,7 @@ use Rattle.cyclic.specs.Ranges.{ordinary, increased}
 abbrev pub eased : Record → Keys → Bool
 eased reading keys = eqb (reading .v) 0 || (keys .brake && ltb (reading .v) 150)
 
--- s: the signals as steps 2 to 5 leave them
+-- signal: as steps 2 to 5 leave it
 module _ (mode : ℕ) (signal : Signal) (reading : Record) (keys : Keys) where
   -- in PRE: MAN; Stop without curve, not eased; code 3 with raise ≥ 1, not eased; Warning without curve and v > 900
   unfoldable pub asksIncreased : Bool

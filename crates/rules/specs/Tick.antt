@@ -29,7 +29,7 @@ use Rattle.state.specs.Mode.{step1Mode}
 use Rattle.rules.specs.Permitted.{step6Permitted}
 use Rattle.rules.specs.Answer.{marks}
 
--- s: the state as step 1 leaves it
+-- state: as step 1 leaves it
 module _ (card : Card) (state : State) (reading : Record) where
   -- one press serves every rule
   abbrev pub keysIn : Keys
