@@ -70,8 +70,7 @@ fn answer_all(file: &[u8], card: Card, buffer: &mut [u8])
         let end = i + (run.ticks as usize);
         while i < end {
             let tick = rules::advance(card, state, reading);
-            let answer = tick.answer;
-            rules::write_answer(buffer, ANSWER_WIDTH * i, answer);
+            rules::write_answer(buffer, ANSWER_WIDTH * i, tick.answer);
             let next = tick.state;
             state = next;
             i += 1;

@@ -149,27 +149,27 @@ advance-requires c κs =
 
 mul-write-answer : tie.Need-mul-write-answer Inv-loop2 μ-loop2 Inv-loop μ-loop
 mul-write-answer c =
-    let at-test = c .before .before .before in
+    let at-test = c .before .before in
     omega (arith, at-test .loop2-test .taken, at-test .before .loop2 .inv .run .most)
 
 write-answer-requires : tie.Need-write-answer-requires Inv-loop2 μ-loop2 Inv-loop μ-loop
 write-answer-requires c κs =
-    let at-test = c .before .before .before in
+    let at-test = c .before .before in
     let inv = at-test .before .loop2 .inv in
     omega (arith, at-test .loop2-test .taken, inv .room, inv .as-long)
 
 add-i : tie.Need-add-i Inv-loop2 μ-loop2 Inv-loop μ-loop
 add-i c =
-    let at-test = c .before .before .before .before .before .before .before in
+    let at-test = c .before .before .before .before .before .before in
     omega (arith, at-test .loop2-test .taken, at-test .before .loop2 .inv .run .most)
 
 loop2-less : tie.Need-loop2-less Inv-loop2 μ-loop2 Inv-loop μ-loop
-loop2-less c = let at-test = c .before .before .before .before .before .before .before in omega (arith, at-test .loop2-test .taken)
+loop2-less c = let at-test = c .before .before .before .before .before .before in omega (arith, at-test .loop2-test .taken)
 
 loop2-again : tie.Need-loop2-again Inv-loop2 μ-loop2 Inv-loop μ-loop
 loop2-again c =
     let at-put = c .before .before .before in
-    let at-tick = at-put .before .before .before in
+    let at-tick = at-put .before .before in
     let at-test = at-tick .before in
     let head = at-test .before .loop2 in
     let start = at-test .before .before .before .before .before .before .before .before .before .before .before .before .before in
