@@ -1,5 +1,6 @@
 -- Our functions as the demands speak of calls: what a function asks and what it may return is what its contract says, as the check reads it off the
--- source (`Asked` and `Post` of the generated module `Reads`). `now` is what a lent slice holds. Each contract is an equation: the laws below take it out, and nothing else of the relations is used.
+-- source (`Asked` and `Post` of the generated module `Reads`). `now` is what a lent slice holds.
+-- Each contract is an equation: the laws below take it out, and nothing else of the relations is used.
 use Prim.Native.Nat.{ℕ}
 use mathlib.Core.Path.{_≡_, refl, sym, ap, ap₂, _∙_}
 use mathlib.Core.List.{List, []}

@@ -164,7 +164,10 @@ add-i c =
     omega (arith, at-test .loop2-test .taken, at-test .before .loop2 .inv .run .most)
 
 loop2-less : tie.Need-loop2-less Inv-loop2 μ-loop2 Inv-loop μ-loop
-loop2-less c = let at-test = c .before .before .before .before .before .before in omega (arith, at-test .loop2-test .taken)
+loop2-less c =
+    let written = c .before .before .before in
+    let at-test = written .before .before .before in
+    omega (arith, at-test .loop2-test .taken)
 
 loop2-again : tie.Need-loop2-again Inv-loop2 μ-loop2 Inv-loop μ-loop
 loop2-again c =
@@ -198,10 +201,16 @@ loop2-again c =
     }
 
 add-j : tie.Need-add-j Inv-loop2 μ-loop2 Inv-loop μ-loop
-add-j c = let at-test = c .before .before .before .before .before in omega (arith, at-test .loop-test .taken)
+add-j c =
+    let read = c .before .before .before in
+    let at-test = read .before .before in
+    omega (arith, at-test .loop-test .taken)
 
 loop-less : tie.Need-loop-less Inv-loop2 μ-loop2 Inv-loop μ-loop
-loop-less c = let at-test = c .before .before .before .before .before in omega (arith, at-test .loop-test .taken)
+loop-less c =
+    let read = c .before .before .before in
+    let at-test = read .before .before in
+    omega (arith, at-test .loop-test .taken)
 
 loop-again : tie.Need-loop-again Inv-loop2 μ-loop2 Inv-loop μ-loop
 loop-again c =

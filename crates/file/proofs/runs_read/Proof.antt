@@ -47,7 +47,9 @@ cast-ticks : tie.Need-cast-ticks Inv-loop μ-loop
 cast-ticks c = search needs
 
 run-fault-requires : tie.Need-run-fault-requires Inv-loop μ-loop
-run-fault-requires c κs = (c .before .before .before .before .loop .inv .2, search needs)
+run-fault-requires c κs =
+    let head = c .before .before in
+    (head .before .before .loop .inv .2, search needs)
 
 returns : tie.Need-returns Inv-loop μ-loop
 returns c =

@@ -45,7 +45,10 @@ shared-slice-read-t21 c = search needs
 
 returns : tie.Need-returns
 unfolding recordAt
-returns c = let speed = c .before .before .before .before .before .before in rw (speed .u16-within .ensures)
+returns c =
+    let half = c .before .before .before in
+    let speed = half .before .before .before in
+    rw (speed .u16-within .ensures)
 
 pub record-at-spec : {M : Type 1} → statement M
 record-at-spec =

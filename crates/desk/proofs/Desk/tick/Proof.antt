@@ -25,14 +25,19 @@ tick-refusal-of-requires : tie.Need-tick-refusal-of-requires
 tick-refusal-of-requires c κs = search needs
 
 -- the number that the code found is the definition's
-number : (c : tie.After-tick-refusal-of) → let a = c .before .before .before .args in
+number : (c : tie.After-tick-refusal-of) →
+    let known = c .before .before in
+    let a = known .before .args in
     c .tick-refusal-of .result ≡ tickRefusal (a .self) (a .sample) (now (a .journal))
 number c =
-    let a = c .before .before .before .args in
+    let known = c .before .before in
+    let a = known .before .args in
     c .tick-refusal-of .ensures ∙ ap (λ (q : ℕ). tickRefusalOf (a .self) q (length (now (a .journal)))) (c .before .take-sample .ensures .0)
 
 -- where it is 0 no reason to refuse holds
-taken : (c : tie.After-tick-refusal-of) → c .tick-refusal-of .result ≡ 0 → let a = c .before .before .before .args in
+taken : (c : tie.After-tick-refusal-of) → c .tick-refusal-of .result ≡ 0 →
+    let known = c .before .before in
+    let a = known .before .args in
     TickTaken (a .self) (sampleRefusal (a .sample)) (length (now (a .journal)))
 taken c none = tick-taken _ _ _ (sym (number c) ∙ none)
 
