@@ -57,13 +57,13 @@ fn write_failed() -> Next {
 // Prints a reply, in one write.
 fn print(reply: Reply) -> Next {
     match reply {
-        Reply::Line(x) => {
+        Reply::Line(outcome) => {
             let mut line = [0u8; LINE_MOST];
-            let n = line::line_of(x, &mut line);
+            let n = line::line_of(outcome, &mut line);
             if !io::write_all(STDOUT_FILENO, &line[..n]) {
                 return write_failed();
             }
-            let desk = x.desk;
+            let desk = outcome.desk;
             Next::Call(desk)
         }
         Reply::BadScript => {

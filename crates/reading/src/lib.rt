@@ -63,20 +63,20 @@ pub fn speed_of(x: f32) -> Speed
 }
 
 // The paper's number of the refusal, 0 where there is none.
-pub fn speed_refusal(s: Speed) -> u8
-    ensures { λ r. ⌜ r ≡ speedRefusal s ⌝ }
+pub fn speed_refusal(speed: Speed) -> u8
+    ensures { λ r. ⌜ r ≡ speedRefusal speed ⌝ }
 {
-    match s {
+    match speed {
         Speed::Tenths(_) => 0,
         Speed::Refused => BAD_SPEED,
     }
 }
 
 // v, 0 where refused.
-pub fn speed_value(s: Speed) -> u16
-    ensures { λ r. ⌜ r ≡ speedValue s ⌝ }
+pub fn speed_value(speed: Speed) -> u16
+    ensures { λ r. ⌜ r ≡ speedValue speed ⌝ }
 {
-    match s {
+    match speed {
         Speed::Tenths(v) => v,
         Speed::Refused => 0,
     }
@@ -108,20 +108,20 @@ pub fn pressure_of(x: f32) -> Pressure
 }
 
 // The paper's number of the refusal, 0 where there is none.
-pub fn pressure_refusal(p: Pressure) -> u8
-    ensures { λ r. ⌜ r ≡ pressureRefusal p ⌝ }
+pub fn pressure_refusal(pressure: Pressure) -> u8
+    ensures { λ r. ⌜ r ≡ pressureRefusal pressure ⌝ }
 {
-    match p {
+    match pressure {
         Pressure::Band(_) => 0,
         Pressure::Refused => BAD_PRESSURE,
     }
 }
 
 // The band, 0 where refused.
-pub fn pressure_band(p: Pressure) -> u8
-    ensures { λ r. ⌜ r ≡ pressureBand p ⌝ }
+pub fn pressure_band(pressure: Pressure) -> u8
+    ensures { λ r. ⌜ r ≡ pressureBand pressure ⌝ }
 {
-    match p {
+    match pressure {
         Pressure::Band(b) => b,
         Pressure::Refused => 0,
     }

@@ -56,14 +56,17 @@ fn print_line(bits: u32) -> bool {
     if !io::print_hex(STDOUT_FILENO, bits as u64, 8) {
         return false;
     }
-    let s = reading::speed_of(x);
-    if !print(reading::speed_refusal(s), reading::speed_value(s) as u64) {
+    let speed = reading::speed_of(x);
+    if !print(
+        reading::speed_refusal(speed),
+        reading::speed_value(speed) as u64,
+    ) {
         return false;
     }
-    let p = reading::pressure_of(x);
+    let pressure = reading::pressure_of(x);
     if !print(
-        reading::pressure_refusal(p),
-        reading::pressure_band(p) as u64,
+        reading::pressure_refusal(pressure),
+        reading::pressure_band(pressure) as u64,
     ) {
         return false;
     }

@@ -4,8 +4,8 @@ use Rattle.reading.specs.Pressure.{pressureBand}
 use Rattle.reading.proofs.pressure_band.Statement.{statement}
 use Rattle.reading.proofs.pressure_band.Tie as tie
 
-enum-known-p : tie.Need-enum-known-p
-enum-known-p c = search needs
+enum-known-pressure : tie.Need-enum-known-pressure
+enum-known-pressure c = search needs
 
 enum-told : tie.Need-enum-told
 enum-told c = search needs
@@ -19,4 +19,4 @@ unfolding pressureBand
 returns-2 c = search needs
 
 pub pressure-band-spec : {M : Type 1} → statement M
-pressure-band-spec = tie.close (tie.spec enum-known-p enum-told returns returns-2)
+pressure-band-spec = tie.close (tie.spec enum-known-pressure enum-told returns returns-2)

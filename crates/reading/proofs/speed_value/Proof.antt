@@ -4,8 +4,8 @@ use Rattle.reading.specs.Speed.{speedValue}
 use Rattle.reading.proofs.speed_value.Statement.{statement}
 use Rattle.reading.proofs.speed_value.Tie as tie
 
-enum-known-s : tie.Need-enum-known-s
-enum-known-s c = search needs
+enum-known-speed : tie.Need-enum-known-speed
+enum-known-speed c = search needs
 
 enum-told : tie.Need-enum-told
 enum-told c = search needs
@@ -19,4 +19,4 @@ unfolding speedValue
 returns-2 c = search needs
 
 pub speed-value-spec : {M : Type 1} → statement M
-speed-value-spec = tie.close (tie.spec enum-known-s enum-told returns returns-2)
+speed-value-spec = tie.close (tie.spec enum-known-speed enum-told returns returns-2)
