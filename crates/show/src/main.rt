@@ -1,13 +1,12 @@
 // Prints the exercise on standard input: for each card its number, then for each run, after its last tick,
 // the ticks so far, P, T, the causes and the lowest of them. A refused file prints only its refusal.
 // That the input can't be read, or the output not be written, is told on standard error and ends the program.
-use layout::byte_at;
-use layout::u16_at;
 use libc::STDIN_FILENO;
 use libc::STDOUT_FILENO;
+use rules::ANSWER_WIDTH;
 
-// Eight bytes for each of 7,200 ticks.
-const ANSWERS: usize = 57600;
+// An answer for each of 7,200 ticks.
+const ANSWERS: usize = 7200 * ANSWER_WIDTH;
 
 // This and what prints below answer whether all of it was written, and stop where it was not.
 fn print(word: &[u8], number: u32, end: &[u8]) -> bool {
@@ -25,20 +24,20 @@ fn print_answer(answers: &[u8], ticks: u32) -> bool {
     if ticks < 1 {
         return true;
     }
-    let at = 8 * (ticks as usize - 1);
+    let answer = rules::answer_at(answers, ANSWER_WIDTH * (ticks as usize - 1));
     if !print(b"", ticks, b" ") {
         return false;
     }
-    if !print(b"", u16_at(answers, at, 0) as u32, b" ") {
+    if !print(b"", answer.permitted as u32, b" ") {
         return false;
     }
-    if !print(b"", u16_at(answers, at, 2) as u32, b" ") {
+    if !print(b"", answer.target as u32, b" ") {
         return false;
     }
-    if !print(b"", byte_at(answers, at, 5) as u32, b" ") {
+    if !print(b"", answer.causes as u32, b" ") {
         return false;
     }
-    print(b"", byte_at(answers, at, 6) as u32, b"\n")
+    print(b"", answer.lowest as u32, b"\n")
 }
 
 fn show_card(file: &[u8], card: u16, runs: u16) -> bool {
