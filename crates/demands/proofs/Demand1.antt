@@ -19,7 +19,8 @@ use Rattle.exercise.specs.Run.{exerciseRefusal, exerciseOutcome}
 use Rattle.exercise.proofs.Outcome.{run-number, buffer-no}
 use Rattle.demands.specs.Ranges.{zeroDesk, zeroAnswer}
 use Rattle.demands.specs.Demand1.{OneOf, Demand1}
-use Rattle.demands.proofs.Functions.{functions, opens-is, ticks-is, steps-back-is, restarts-is, reads-is, runs-is, hosts-is, returning}
+use Rattle.demands.proofs.Functions.{functions, opens-is, ticks-is, steps-back-is, steps-back-reads, restarts-is}
+use Rattle.demands.proofs.Functions.{reads-is, runs-is, hosts-is, returning}
 use Rattle.demands.proofs.Exactly.{one-of}
 use Rattle.demands.proofs.Refusals.{open-first, tick-first, back-first, restart-first, read-first, exercise-first}
 use Rattle.demands.proofs.Numbers.{tick-number, back-number, read-number, host-refused, host-accepted}
@@ -72,31 +73,35 @@ demand1 = record {
         rw (e .0, no .0) (record { number = one-of _ _ (tick-first d x J) m; desk = refl; answer = refl }),
         e .1 ∙ no .1,
       );
-  step-back = λ d k J o f n.
-      let e = steps-back-is d k J o f in
-      let m : backRefusal d k J ≡ 0 → ⊥ = rw (e, back-number) at n in
-      rw (e, Calls.back-no d k J m) (record { number = one-of _ _ (back-first d k J) m; desk = refl; answer = refl });
+  step-back = λ d k J o K f n.
+      let e = steps-back-is d k J o K f in
+      let m : backRefusal d k J ≡ 0 → ⊥ = rw (e, back-number) at n in (
+        rw (e, Calls.back-no d k J m) (record { number = one-of _ _ (back-first d k J) m; desk = refl; answer = refl }),
+        steps-back-reads d k J o K f,
+      );
   restart = λ d o f n.
       let e = restarts-is d o f in
       let m = rw e at n in
       let no = restart-no d m in
       rw e (record { number = one-of _ _ (restart-first d) m; desk = no .0; answer = no .1 });
-  reader = λ file c f n.
-      let e = reads-is file c f in
-      let m : readRefusal file ≡ 0 → ⊥ = rw (e, read-number) at n in
+  reader = λ file c g f n.
+      let e = reads-is file c g f in
+      let m : readRefusal file ≡ 0 → ⊥ = rw (e .0, read-number) at n in
       let no = read-no file m in
-      rw (e, read-number) (one-of _ _ (read-first file) m, no .0, no .1, no .2);
-  exercise = λ file card B x C f n.
-      let e = runs-is file card B C x f in
+      rw (e .0, read-number) (one-of _ _ (read-first file) m, no .0, no .1, no .2, e .1);
+  exercise = λ file card B x g C f n.
+      let e = runs-is file card B g C x f in
       let m : exerciseRefusal file card (length B) ≡ 0 → ⊥ = rw (e .0, run-number) at n in (
         rw (e .0, run-number) (one-of _ _ (exercise-first file card B) m),
         rw (e .0) (run-no file card (length B) m),
-        e .1 ∙ buffer-no file card B m,
+        e .1,
+        e .2 ∙ buffer-no file card B m,
       );
-  host = λ file card B x C f h.
-      let e = hosts-is file card B C x f in
-      let m : exerciseRefusal file card (length B) ≡ 0 → ⊥ = λ z. let a = host-accepted file card (length B) z in let g = e .0 in omega arith in (
+  host = λ file card B x g C f h.
+      let e = hosts-is file card B g C x f in
+      let m : exerciseRefusal file card (length B) ≡ 0 → ⊥ = λ z. let a = host-accepted file card (length B) z in let i = e .0 in omega arith in (
         rw (e .0, host-refused file card (length B) m) (above _ _ (one-of _ _ (exercise-first file card B) m)),
-        e .1 ∙ buffer-no file card B m,
+        e .1,
+        e .2 ∙ buffer-no file card B m,
       );
 }

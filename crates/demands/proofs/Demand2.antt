@@ -41,7 +41,8 @@ use Rattle.exercise.proofs.Outcome.{run-number, buffer-yes}
 use Rattle.exercise.proofs.Buffer.{answers-length}
 use Rattle.demands.specs.Ranges.{DeskFits, freshOf}
 use Rattle.demands.specs.Demand2.{RecordOf, Gives, Begins, WrittenAt, Answered, Demand2}
-use Rattle.demands.proofs.Functions.{functions, opens-is, ticks-is, steps-back-is, restarts-is, reads-is, runs-is, hosts-is}
+use Rattle.demands.proofs.Functions.{functions, opens-is, ticks-is, steps-back-is, steps-back-reads, restarts-is}
+use Rattle.demands.proofs.Functions.{reads-is, runs-is, hosts-is}
 use Rattle.demands.proofs.Exactly.{exactly}
 use Rattle.demands.proofs.Ranges.{desk-fits}
 use Rattle.demands.proofs.Readings.{speed-first, pressure-first}
@@ -160,25 +161,28 @@ demand2 = record {
         rw tick-number (exactly _ _ refl (tick-first d x J)),
         λ a. let z = rw tick-number at a in (record-of x (Calls.tick-taken _ _ _ z .fine), tick-written d x J z, tick-gives d x J z),
       );
-  step-back = λ d k J o f.
-      let e = steps-back-is d k J o f in
-      rw e (rw back-number (exactly _ _ refl (back-first d k J)), λ a. back-gives d k J (rw back-number at a));
+  step-back = λ d k J o K f.
+      let e = steps-back-is d k J o K f in
+      rw e (rw back-number (exactly _ _ refl (back-first d k J)), λ a. (steps-back-reads d k J o K f, back-gives d k J (rw back-number at a)));
   restart = λ d o f.
       let e = restarts-is d o f in
       rw e (exactly _ _ refl (restart-first d), restart-yes d);
-  reader = λ file c f.
-      let e = reads-is file c f in
-      rw e (rw read-number (exactly _ _ refl (read-first file)), λ a. read-yes file (rw read-number at a));
-  exercise = λ file card B x C f.
-      let e = runs-is file card B C x f in
-      rw (e .0, e .1) (
-        rw run-number (exactly _ _ refl (exercise-first file card B)),
-        λ a. let z = rw run-number at a in (run-ticks file card B z, answered file card B z),
+  reader = λ file c g f.
+      let e = reads-is file c g f in
+      rw (e .0) (
+        rw read-number (exactly _ _ refl (read-first file)),
+        λ a. let y = read-yes file (rw read-number at a) in (y .0, y .1, y .2, e .1),
       );
-  host = λ file card B x C f.
-      let e = hosts-is file card B C x f in
-      rw (e .0, e .1, host-number) (
+  exercise = λ file card B x g C f.
+      let e = runs-is file card B g C x f in
+      rw (e .0, e .2) (
+        rw run-number (exactly _ _ refl (exercise-first file card B)),
+        λ a. let z = rw run-number at a in (run-ticks file card B z, e .1, answered file card B z),
+      );
+  host = λ file card B x g C f.
+      let e = hosts-is file card B g C x f in
+      rw (e .0, e .2, host-number) (
         exactly _ _ refl (exercise-first file card B),
-        λ z. let a = host-accepted file card (length B) z in (a .0, rw (a .0) (a .1), answered file card B z),
+        λ z. let a = host-accepted file card (length B) z in (a .0, rw (a .0) (a .1), e .1, answered file card B z),
       );
 }

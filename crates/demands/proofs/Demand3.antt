@@ -19,7 +19,7 @@ use Rattle.desk.proofs.Calls as Calls
 use Rattle.demands.specs.Reasons.{ExactlyFrom}
 use Rattle.demands.specs.Demand3.{Call, Tick, Back, Restart, Drive, survivors, next, opened}
 use Rattle.demands.specs.Demand3.{Room, Returns, Called, done, then, Same, Fed, LastAnswer, NoneLeft, Demand3}
-use Rattle.demands.proofs.Functions.{functions, opens-is, ticks-is, steps-back-is, restarts-is}
+use Rattle.demands.proofs.Functions.{functions, opens-is, ticks-is, steps-back-is, steps-back-reads, restarts-is}
 use Rattle.demands.proofs.Exactly.{exactly}
 use Rattle.demands.proofs.Refusals.{sample-first}
 use Rattle.demands.proofs.Replay as Replay
@@ -29,7 +29,7 @@ use Rattle.demands.proofs.Replay.{Kept, Fine, outcome, journalAfter, ca
 returned : (s : Drive) (c : Call) (o : Outcome) (K : List ℕ) → Returns functions s c o K → (o ≡ outcome s c) × (K ≡ journalAfter s c)
 unfolding Returns outcome journalAfter
 returned s (Tick x) o K r = ticks-is (s .desk) x (s .journal) o K r
-returned s (Back k) o K r = (steps-back-is (s .desk) k (s .journal) o (r .0), r .1)
+returned s (Back k) o K r = (steps-back-is (s .desk) k (s .journal) o K r, steps-back-reads (s .desk) k (s .journal) o K r)
 returned s Restart o K r = (restarts-is (s .desk) o (r .0), r .1)
 
 went : (s : Drive) (c : Call) (o : Outcome) (K : List ℕ) → Returns functions s c o K → next s c o K ≡ call s c

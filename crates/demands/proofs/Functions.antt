@@ -1,10 +1,12 @@
 -- Our functions as the demands speak of calls: what a function asks and what it may return is what its contract says, as the check reads it off the
--- source (`Asked` and `Post` of the generated module `Reads`). `now` is what a lent slice holds.
--- Each contract is an equation: the laws below take it out, and nothing else of the relations is used.
+-- source (`Asked` and `Post` of the generated module `Reads`), and what its parameters may be at exit is what their types say (`ended`).
+-- `now` is what a lent slice holds. Each contract is an equation: the laws below take it out, and nothing else of the relations is used.
 use Prim.Native.Nat.{ℕ}
 use mathlib.Core.Path.{_≡_, refl, sym, ap, ap₂, _∙_}
 use mathlib.Core.List.{List, []}
 use denote.Ref.{RefT, now}
+use denote.Triple.Clauses.{Ended, Lasts, AtExit, atExit}
+use denote.Triple.Entry.{Args, Res}
 use contract.Lifetimes.{Lfts}
 use lib.ListN.{length}
 use Rattle.card.specs.declared.Card.{Card}
@@ -18,11 +20,16 @@ use Rattle.file.specs.Read.{readOutcome}
 use Rattle.exercise.specs.Run.{exerciseOutcome, exerciseBuffer}
 use Rattle.host.specs.Host.{hostNumber}
 use Rattle.desk.proofs.Desk.open.Reads as opening
+use Rattle.desk.proofs.Desk.tick as tickCall
 use Rattle.desk.proofs.Desk.tick.Reads as ticking
+use Rattle.desk.proofs.Desk.step_back as backCall
 use Rattle.desk.proofs.Desk.step_back.Reads as backing
 use Rattle.desk.proofs.Desk.restart.Reads as restarting
+use Rattle.file.proofs.read as readCall
 use Rattle.file.proofs.read.Reads as reading
+use Rattle.exercise.proofs.run as runCall
 use Rattle.exercise.proofs.run.Reads as running
+use Rattle.host.proofs.foldharbor_run_exercise as hostCall
 use Rattle.host.proofs.foldharbor_run_exercise.Reads as hosting
 use Rattle.demands.specs.Functions.{Functions}
 use Rattle.demands.specs.Demand1.{Returning}
@@ -31,30 +38,46 @@ use Rattle.demands.specs.Demand1.{Returning}
 abbrev Lent : List ℕ → Type 0
 Lent bytes = (slice : RefT (List ℕ)) × (now slice ≡ bytes)
 
--- `exit .1 .1 .0` is the third parameter, the journal or the buffer, at exit
+-- a function's `Post`: what its contract says of arguments, a result, and the arguments at exit
+abbrev Said : Ended → Type 1
+Said T = (κs : Lfts (T .signature .lifetimes)) → Args (T .signature) κs → Res (T .signature) κs → AtExit T κs → Type 0
+
+-- what a call with lent slices may return, and what they may hold at exit
+record Returned (T : Ended) (Post : Said T) (κs : Lfts (T .signature .lifetimes)) (args : Args (T .signature) κs) (x : Res (T .signature) κs)
+    (Left : AtExit T κs → Type 0) : Type 0 where
+  last : Lasts T κs args
+  post : Post κs args x (atExit T κs args last)
+  left : Left (atExit T κs args last)
+
+-- `exit .0` is the first parameter at exit, the file; `exit .1 .1 .0` the third, the journal or the buffer
 pub functions : Functions
 functions =
     record {
       opens = λ card out. (κs : Lfts 0) × (exit : _) × opening.Post κs (card, tt) out exit;
       opens-asks = λ card. (κs : Lfts 0) → opening.Asked κs (card, tt);
       ticks = λ desk sample journal out left.
-          (κs : Lfts 1) × (j : Lent journal) × (exit : _) × ticking.Post κs (desk, (sample, (j .0, tt))) out exit × (now (exit .1 .1 .0) ≡ left);
+          (κs : Lfts 1) × (j : Lent journal)
+          × Returned tickCall.ended ticking.Post κs (desk, (sample, (j .0, tt))) out (λ exit. now (exit .1 .1 .0) ≡ left);
       ticks-asks = λ desk sample journal. (κs : Lfts 1) (j : Lent journal) → ticking.Asked κs (desk, (sample, (j .0, tt)));
-      steps-back = λ desk k journal out.
-          (κs : Lfts 1) × (j : Lent journal) × (exit : _) × backing.Post κs (desk, (k, (j .0, tt))) out exit;
+      steps-back = λ desk k journal out left.
+          (κs : Lfts 1) × (j : Lent journal)
+          × Returned backCall.ended backing.Post κs (desk, (k, (j .0, tt))) out (λ exit. now (exit .1 .1 .0) ≡ left);
       steps-back-asks = λ desk k journal. (κs : Lfts 1) (j : Lent journal) → backing.Asked κs (desk, (k, (j .0, tt)));
       restarts = λ desk out. (κs : Lfts 0) × (exit : _) × restarting.Post κs (desk, tt) out exit;
       restarts-asks = λ desk. (κs : Lfts 0) → restarting.Asked κs (desk, tt);
-      reads = λ file counts. (κs : Lfts 1) × (f : Lent file) × (exit : _) × reading.Post κs (f .0, tt) counts exit;
+      reads = λ file counts file-left.
+          (κs : Lfts 1) × (f : Lent file) × Returned readCall.ended reading.Post κs (f .0, tt) counts (λ exit. now (exit .0) ≡ file-left);
       reads-asks = λ file. (κs : Lfts 1) (f : Lent file) → reading.Asked κs (f .0, tt);
-      runs = λ file card buffer total left.
-          (κs : Lfts 2) × (f : Lent file) × (b : Lent buffer) × (exit : _)
-          × running.Post κs (f .0, (card, (b .0, tt))) total exit × (now (exit .1 .1 .0) ≡ left);
+      runs = λ file card buffer total file-left left.
+          (κs : Lfts 2) × (f : Lent file) × (b : Lent buffer)
+          × Returned runCall.ended running.Post κs (f .0, (card, (b .0, tt))) total
+          (λ exit. (now (exit .0) ≡ file-left) × (now (exit .1 .1 .0) ≡ left));
       runs-asks = λ file card buffer.
           (κs : Lfts 2) (f : Lent file) (b : Lent buffer) → running.Asked κs (f .0, (card, (b .0, tt)));
-      hosts = λ file card buffer number left.
-          (κs : Lfts 2) × (f : Lent file) × (b : Lent buffer) × (exit : _)
-          × hosting.Post κs (f .0, (card, (b .0, tt))) number exit × (now (exit .1 .1 .0) ≡ left);
+      hosts = λ file card buffer number file-left left.
+          (κs : Lfts 2) × (f : Lent file) × (b : Lent buffer)
+          × Returned hostCall.ended hosting.Post κs (f .0, (card, (b .0, tt))) number
+          (λ exit. (now (exit .0) ≡ file-left) × (now (exit .1 .1 .0) ≡ left));
       hosts-asks = λ file card buffer.
           (κs : Lfts 2) (f : Lent file) (b : Lent buffer) → hosting.Asked κs (f .0, (card, (b .0, tt)));
     }
@@ -67,35 +90,42 @@ opens-is card o f = f .2
 module _ (d : Desk) (x : Sample) (journal : List ℕ) (o : Outcome) (left : List ℕ) where
   pub ticks-is : functions .ticks d x journal o left → (o ≡ tickOutcome d x journal) × (left ≡ tickJournal d x journal)
   unfolding functions
-  ticks-is f = (f .3 .0 ∙ ap (tickOutcome d x) (f .1 .1), sym (f .4) ∙ f .3 .1 ∙ ap (tickJournal d x) (f .1 .1))
+  ticks-is f = (f .2 .post .0 ∙ ap (tickOutcome d x) (f .1 .1), sym (f .2 .left) ∙ f .2 .post .1 ∙ ap (tickJournal d x) (f .1 .1))
 
-pub steps-back-is : (d : Desk) (k : ℕ) (journal : List ℕ) (o : Outcome) → functions .steps-back d k journal o → o ≡ backOutcome d k journal
-unfolding functions
-steps-back-is d k journal o f = f .3 ∙ ap (backOutcome d k) (f .1 .1)
+module _ (d : Desk) (k : ℕ) (journal : List ℕ) (o : Outcome) (left : List ℕ) (f : functions .steps-back d k journal o left) where
+  pub steps-back-is : o ≡ backOutcome d k journal
+  unfolding functions
+  steps-back-is = f .2 .post ∙ ap (backOutcome d k) (f .1 .1)
+
+  pub steps-back-reads : left ≡ journal
+  unfolding functions
+  steps-back-reads = sym (f .2 .left) ∙ f .1 .1
 
 pub restarts-is : (d : Desk) (o : Outcome) → functions .restarts d o → o ≡ restartOutcome d
 unfolding functions
 restarts-is d o f = f .2
 
-pub reads-is : (file : List ℕ) (c : Counts) → functions .reads file c → c ≡ readOutcome file
+pub reads-is : (file : List ℕ) (c : Counts) (file-left : List ℕ) → functions .reads file c file-left → (c ≡ readOutcome file) × (file-left ≡ file)
 unfolding functions
-reads-is file c f = f .3 ∙ ap readOutcome (f .1 .1)
+reads-is file c file-left f = (f .2 .post ∙ ap readOutcome (f .1 .1), sym (f .2 .left) ∙ f .1 .1)
 
-module _ (file : List ℕ) (card : ℕ) (buffer left : List ℕ) where
-  pub runs-is : (x : Total) → functions .runs file card buffer x left
-      → (x ≡ exerciseOutcome file card (length buffer)) × (left ≡ exerciseBuffer file card buffer)
+module _ (file : List ℕ) (card : ℕ) (buffer file-left left : List ℕ) where
+  pub runs-is : (x : Total) → functions .runs file card buffer x file-left left
+      → (x ≡ exerciseOutcome file card (length buffer)) × (file-left ≡ file) × (left ≡ exerciseBuffer file card buffer)
   unfolding functions
   runs-is x f = (
-    f .4 .0 ∙ ap₂ (λ (a b : List ℕ). exerciseOutcome a card (length b)) (f .1 .1) (f .2 .1),
-    sym (f .5) ∙ f .4 .1 ∙ ap₂ (λ (a b : List ℕ). exerciseBuffer a card b) (f .1 .1) (f .2 .1),
+    f .3 .post .0 ∙ ap₂ (λ (a b : List ℕ). exerciseOutcome a card (length b)) (f .1 .1) (f .2 .1),
+    sym (f .3 .left .0) ∙ f .1 .1,
+    sym (f .3 .left .1) ∙ f .3 .post .1 ∙ ap₂ (λ (a b : List ℕ). exerciseBuffer a card b) (f .1 .1) (f .2 .1),
   )
 
-  pub hosts-is : (x : ℕ) → functions .hosts file card buffer x left
-      → (x ≡ hostNumber (exerciseOutcome file card (length buffer))) × (left ≡ exerciseBuffer file card buffer)
+  pub hosts-is : (x : ℕ) → functions .hosts file card buffer x file-left left
+      → (x ≡ hostNumber (exerciseOutcome file card (length buffer))) × (file-left ≡ file) × (left ≡ exerciseBuffer file card buffer)
   unfolding functions
   hosts-is x f = (
-    f .4 .0 ∙ ap₂ (λ (a b : List ℕ). hostNumber (exerciseOutcome a card (length b))) (f .1 .1) (f .2 .1),
-    sym (f .5) ∙ f .4 .1 ∙ ap₂ (λ (a b : List ℕ). exerciseBuffer a card b) (f .1 .1) (f .2 .1),
+    f .3 .post .0 ∙ ap₂ (λ (a b : List ℕ). hostNumber (exerciseOutcome a card (length b))) (f .1 .1) (f .2 .1),
+    sym (f .3 .left .0) ∙ f .1 .1,
+    sym (f .3 .left .1) ∙ f .3 .post .1 ∙ ap₂ (λ (a b : List ℕ). exerciseBuffer a card b) (f .1 .1) (f .2 .1),
   )
 
 -- ---- nothing is asked, and something meets them, whatever is handed over
@@ -106,27 +136,30 @@ pub returning : Returning functions
 unfolding functions
 returning = record {
   opening = λ card. (λ κs. tt, openOutcome card, (tt, (card, tt), refl));
-  tick = λ d x J. (
-    λ κs j. tt,
-    tickOutcome d x J,
-    tickJournal d x J,
-    (([], tt), lent J, (d, (x, (lent (tickJournal d x J) .0, tt))), (refl, refl), refl),
-  );
-  step-back = λ d k J. (λ κs j. tt, backOutcome d k J, (([], tt), lent J, (d, (k, (lent J .0, tt))), refl));
+  tick = λ d x J.
+      let K = tickJournal d x J in (
+        λ κs j. tt,
+        tickOutcome d x J,
+        K,
+        (([], tt), lent J, record { last = (tt, (tt, (K, tt))); post = (refl, refl); left = refl }),
+      );
+  step-back = λ d k J. (λ κs j. tt, backOutcome d k J, J, (([], tt), lent J, record { last = (tt, (tt, (tt, tt))); post = refl; left = refl }));
   restart = λ d. (λ κs. tt, restartOutcome d, (tt, (d, tt), refl));
-  reader = λ file. (λ κs f. tt, readOutcome file, (([], tt), lent file, (lent file .0, tt), refl));
+  reader = λ file. (λ κs f. tt, readOutcome file, file, (([], tt), lent file, record { last = (tt, tt); post = refl; left = refl }));
   exercise = λ file card B.
       let C = exerciseBuffer file card B in (
         λ κs f b. tt,
         exerciseOutcome file card (length B),
+        file,
         C,
-        (([], ([], tt)), lent file, lent B, (lent file .0, (card, (lent C .0, tt))), (refl, refl), refl),
+        (([], ([], tt)), lent file, lent B, record { last = (tt, (tt, (C, tt))); post = (refl, refl); left = (refl, refl) }),
       );
   host = λ file card B.
       let C = exerciseBuffer file card B in (
         λ κs f b. tt,
         hostNumber (exerciseOutcome file card (length B)),
+        file,
         C,
-        (([], ([], tt)), lent file, lent B, (lent file .0, (card, (lent C .0, tt))), (refl, refl), refl),
+        (([], ([], tt)), lent file, lent B, record { last = (tt, (tt, (C, tt))); post = (refl, refl); left = (refl, refl) }),
       );
 }

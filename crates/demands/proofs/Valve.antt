@@ -45,6 +45,6 @@ pub valve : Valve functions
 valve = record {
   opening = λ card o f z. begins card o (demand2 .opening card o f .1 z);
   tick = λ d x J o K f z. let g = demand2 .tick d x J o K f .1 z .2 in valve-is o (rw (g .desk, g .answer) (advance-shows _ _ _));
-  step-back = λ d k J o f z. let g = demand2 .step-back d k J o f .1 z in valve-is o (rw (g .desk, g .answer) (after-shows _ _ _));
+  step-back = λ d k J o K f z. let g = demand2 .step-back d k J o K f .1 z .1 in valve-is o (rw (g .desk, g .answer) (after-shows _ _ _));
   restart = λ d o f z. begins (d .card) o (demand2 .restart d o f .1 z);
 }

@@ -20,13 +20,13 @@ pub record Returning (F : Functions) : Type 0 where
   pub tick : (desk : Desk) (sample : Sample) (journal : List ℕ) → F .ticks-asks desk sample journal
       × (out : Outcome) × (left : List ℕ) × F .ticks desk sample journal out left
   pub step-back : (desk : Desk) (k : ℕ) (journal : List ℕ) → F .steps-back-asks desk k journal
-      × (out : Outcome) × F .steps-back desk k journal out
+      × (out : Outcome) × (left : List ℕ) × F .steps-back desk k journal out left
   pub restart : (desk : Desk) → F .restarts-asks desk × (out : Outcome) × F .restarts desk out
-  pub reader : (file : List ℕ) → F .reads-asks file × (counts : Counts) × F .reads file counts
+  pub reader : (file : List ℕ) → F .reads-asks file × (counts : Counts) × (file-left : List ℕ) × F .reads file counts file-left
   pub exercise : (file : List ℕ) (card : ℕ) (buffer : List ℕ) → F .runs-asks file card buffer
-      × (total : Total) × (left : List ℕ) × F .runs file card buffer total left
+      × (total : Total) × (file-left left : List ℕ) × F .runs file card buffer total file-left left
   pub host : (file : List ℕ) (card : ℕ) (buffer : List ℕ) → F .hosts-asks file card buffer
-      × (number : ℕ) × (left : List ℕ) × F .hosts file card buffer number left
+      × (number : ℕ) × (file-left left : List ℕ) × F .hosts file card buffer number file-left left
 
 unfoldable pub OneOf : List ℕ → ℕ → Type 0
 OneOf [] x = ⊥
@@ -44,16 +44,18 @@ pub record Demand1 (F : Functions) : Type 0 where
       (out .refusal ≡ 0 → ⊥) → Refused (4 ∷ []) zeroDesk out
   pub tick : (desk : Desk) (sample : Sample) (journal : List ℕ) (out : Outcome) (left : List ℕ) → F .ticks desk sample journal out left →
       (out .refusal ≡ 0 → ⊥) → Refused (5 ∷ 6 ∷ 7 ∷ 1 ∷ 2 ∷ 3 ∷ []) desk out × (left ≡ journal)
-  pub step-back : (desk : Desk) (k : ℕ) (journal : List ℕ) (out : Outcome) → F .steps-back desk k journal out →
-      (out .refusal ≡ 0 → ⊥) → Refused (5 ∷ 6 ∷ 8 ∷ 9 ∷ []) desk out
+  pub step-back : (desk : Desk) (k : ℕ) (journal : List ℕ) (out : Outcome) (left : List ℕ) → F .steps-back desk k journal out left →
+      (out .refusal ≡ 0 → ⊥) → Refused (5 ∷ 6 ∷ 8 ∷ 9 ∷ []) desk out × (left ≡ journal)
   pub restart : (desk : Desk) (out : Outcome) → F .restarts desk out →
       (out .refusal ≡ 0 → ⊥) → Refused (5 ∷ []) desk out
-  -- the reader and the exercise: counts of zeros
-  pub reader : (file : List ℕ) (counts : Counts) → F .reads file counts →
+  -- the reader and the exercise: counts of zeros. `file-left` is the file afterwards
+  pub reader : (file : List ℕ) (counts : Counts) (file-left : List ℕ) → F .reads file counts file-left →
       (counts .refusal ≡ 0 → ⊥) → OneOf (10 ∷ 4 ∷ 11 ∷ 9 ∷ []) (counts .refusal)
-      × (counts .cards ≡ 0) × (counts .runs ≡ 0) × (counts .ticks ≡ 0)
-  pub exercise : (file : List ℕ) (card : ℕ) (buffer : List ℕ) (total : Total) (left : List ℕ) → F .runs file card buffer total left →
-      (total .refusal ≡ 0 → ⊥) → OneOf (10 ∷ 4 ∷ 13 ∷ 11 ∷ 9 ∷ 12 ∷ []) (total .refusal) × (total .ticks ≡ 0) × (left ≡ buffer)
+      × (counts .cards ≡ 0) × (counts .runs ≡ 0) × (counts .ticks ≡ 0) × (file-left ≡ file)
+  pub exercise : (file : List ℕ) (card : ℕ) (buffer : List ℕ) (total : Total) (file-left left : List ℕ) →
+      F .runs file card buffer total file-left left → (total .refusal ≡ 0 → ⊥) →
+      OneOf (10 ∷ 4 ∷ 13 ∷ 11 ∷ 9 ∷ 12 ∷ []) (total .refusal) × (total .ticks ≡ 0) × (file-left ≡ file) × (left ≡ buffer)
   -- no exercise has more than 7,200 ticks: a greater number is a refusal
-  pub host : (file : List ℕ) (card : ℕ) (buffer : List ℕ) (number : ℕ) (left : List ℕ) → F .hosts file card buffer number left →
-      7200 < number → OneOf (10010 ∷ 10004 ∷ 10013 ∷ 10011 ∷ 10009 ∷ 10012 ∷ []) number × (left ≡ buffer)
+  pub host : (file : List ℕ) (card : ℕ) (buffer : List ℕ) (number : ℕ) (file-left left : List ℕ) →
+      F .hosts file card buffer number file-left left → 7200 < number →
+      OneOf (10010 ∷ 10004 ∷ 10013 ∷ 10011 ∷ 10009 ∷ 10012 ∷ []) number × (file-left ≡ file) × (left ≡ buffer)

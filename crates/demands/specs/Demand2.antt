@@ -63,19 +63,23 @@ pub record Demand2 (F : Functions) : Type 0 where
       ExactlyWhen (out .refusal) (tickReasons desk sample journal)
       × (out .refusal ≡ 0 → RecordOf sample (sampleRecord sample) × WrittenAt (desk .n) (sampleRecord sample) journal left
       × Gives (desk .card) (desk .n + 1) (advance (desk .card) (desk .state) (sampleRecord sample)) out)
-  pub step-back : (desk : Desk) (k : ℕ) (journal : List ℕ) (out : Outcome) → F .steps-back desk k journal out →
+  pub step-back : (desk : Desk) (k : ℕ) (journal : List ℕ) (out : Outcome) (left : List ℕ) → F .steps-back desk k journal out left →
       ExactlyWhen (out .refusal) (backReasons desk k journal)
-      × (out .refusal ≡ 0 → Gives (desk .card) (desk .n - k) (after (desk .card) (λ i. recordAt journal (8 * i)) (desk .n - k)) out)
+      × (out .refusal ≡ 0 → (left ≡ journal)
+      × Gives (desk .card) (desk .n - k) (after (desk .card) (λ i. recordAt journal (8 * i)) (desk .n - k)) out)
   pub restart : (desk : Desk) (out : Outcome) → F .restarts desk out →
       ExactlyWhen (out .refusal) (restartReasons desk)
       × (out .refusal ≡ 0 → Begins (desk .card) out)
-  pub reader : (file : List ℕ) (counts : Counts) → F .reads file counts →
+  pub reader : (file : List ℕ) (counts : Counts) (file-left : List ℕ) → F .reads file counts file-left →
       ExactlyWhen (counts .refusal) (readReasons file)
-      × (counts .refusal ≡ 0 → (counts .cards ≡ cardCount file) × (counts .runs ≡ runCount file) × (counts .ticks ≡ tickCount file))
-  pub exercise : (file : List ℕ) (card : ℕ) (buffer : List ℕ) (total : Total) (left : List ℕ) → F .runs file card buffer total left →
+      × (counts .refusal ≡ 0 → (counts .cards ≡ cardCount file) × (counts .runs ≡ runCount file) × (counts .ticks ≡ tickCount file)
+      × (file-left ≡ file))
+  pub exercise : (file : List ℕ) (card : ℕ) (buffer : List ℕ) (total : Total) (file-left left : List ℕ) →
+      F .runs file card buffer total file-left left →
       ExactlyWhen (total .refusal) (exerciseReasons file card buffer)
-      × (total .refusal ≡ 0 → (total .ticks ≡ tickCount file) × Answered file card buffer left)
+      × (total .refusal ≡ 0 → (total .ticks ≡ tickCount file) × (file-left ≡ file) × Answered file card buffer left)
   -- a refusal is 10,000 plus its number: what is above 10,000 is that number, 0 where the call is accepted
-  pub host : (file : List ℕ) (card : ℕ) (buffer : List ℕ) (number : ℕ) (left : List ℕ) → F .hosts file card buffer number left →
+  pub host : (file : List ℕ) (card : ℕ) (buffer : List ℕ) (number : ℕ) (file-left left : List ℕ) →
+      F .hosts file card buffer number file-left left →
       ExactlyWhen (number - 10000) (exerciseReasons file card buffer)
-      × (number - 10000 ≡ 0 → (number ≡ tickCount file) × (number ≤ 7200) × Answered file card buffer left)
+      × (number - 10000 ≡ 0 → (number ≡ tickCount file) × (number ≤ 7200) × (file-left ≡ file) × Answered file card buffer left)

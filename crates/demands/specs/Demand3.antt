@@ -51,7 +51,7 @@ module _ (F : Functions) where
   -- what a call may return, and the journal that it may leave
   unfoldable pub Returns : Drive → Call → Outcome → List ℕ → Type 0
   Returns drive (Tick sample) out left = F .ticks (drive .desk) sample (drive .journal) out left
-  Returns drive (Back k) out left = F .steps-back (drive .desk) k (drive .journal) out × (left ≡ drive .journal)
+  Returns drive (Back k) out left = F .steps-back (drive .desk) k (drive .journal) out left
   Returns drive Restart out left = F .restarts (drive .desk) out × (left ≡ drive .journal)
 
   -- calls one after the other, what each of them returned, and the drive at the end

@@ -29,6 +29,6 @@ pub record Valve (F : Functions) : Type 0 where
   pub opening : (card : Card) (out : Outcome) → F .opens card out → out .refusal ≡ 0 → ValveIs out
   pub tick : (desk : Desk) (sample : Sample) (journal : List ℕ) (out : Outcome) (left : List ℕ) →
       F .ticks desk sample journal out left → out .refusal ≡ 0 → ValveIs out
-  pub step-back : (desk : Desk) (k : ℕ) (journal : List ℕ) (out : Outcome) →
-      F .steps-back desk k journal out → out .refusal ≡ 0 → ValveIs out
+  pub step-back : (desk : Desk) (k : ℕ) (journal : List ℕ) (out : Outcome) (left : List ℕ) →
+      F .steps-back desk k journal out left → out .refusal ≡ 0 → ValveIs out
   pub restart : (desk : Desk) (out : Outcome) → F .restarts desk out → out .refusal ≡ 0 → ValveIs out

@@ -1,11 +1,14 @@
 -- Each call's contract asks nothing of its caller and determines its result and every lent byte: two outcomes that satisfy it are equal.
 -- `Asked` and `Post` are the contract as the check reads it off the source: a `requires`, or an `ensures` that says less, breaks these lines.
-use mathlib.Core.Path.{_≡_}
+-- `atExit` is what the parameters hold afterwards, by their types: a slice that is lent to be read holds what it held.
+use mathlib.Core.Path.{_≡_, refl}
 use denote.Ref.{now}
 use contract.Lifetimes.{Lfts}
+use denote.Triple.Clauses.{Lasts, atExit}
 use Rattle.numbers.proofs.Alike.{alike}
 use Rattle.desk.proofs.Desk.open.Reads as opening
 use Rattle.desk.proofs.Desk.tick.Reads as ticking
+use Rattle.desk.proofs.Desk.step_back.{ended}
 use Rattle.desk.proofs.Desk.step_back.Reads as backing
 use Rattle.desk.proofs.Desk.restart.Reads as restarting
 
@@ -28,6 +31,10 @@ step-back-asks-nothing κs a = tt
 
 pub step-back-determined : (κs : Lfts 1) (a : _) (x y : _) (s t : _) → backing.Post κs a x s → backing.Post κs a y t → x ≡ y
 step-back-determined κs a x y s t p q = alike p q
+
+-- the journal
+pub step-back-reads : (κs : Lfts 1) (a : _) (last : Lasts ended κs a) → now (atExit ended κs a last .1 .1 .0) ≡ now (a .1 .1 .0)
+step-back-reads κs a last = refl
 
 pub restart-asks-nothing : (κs : Lfts 0) (a : _) → restarting.Asked κs a
 restart-asks-nothing κs a = tt

@@ -1,12 +1,16 @@
 -- The contracts of `text_place` and `text` determine the answer: two that satisfy one are equal, of a part both its address and its bytes.
 -- They ask nothing of their caller. `Asked` and `Post` are the contract as the check reads it off the source;
 -- `s .1 .1 .1 .1 .0` is the refusal, the fifth parameter, at exit.
-use mathlib.Core.Path.{_≡_}
+-- `atExit` is what the parameters hold afterwards, by their types: a table that is lent to be read holds what it held.
+use mathlib.Core.Path.{_≡_, refl}
 use denote.Ref.{now, ptr}
 use contract.Lifetimes.{Lfts}
+use denote.Triple.Clauses.{Lasts, atExit}
 use Rattle.numbers.proofs.Alike.{alike}
 use Rattle.texts.specs.Text.{chosen}
+use Rattle.texts.proofs.text_place as place
 use Rattle.texts.proofs.text_place.Reads as placing
+use Rattle.texts.proofs.text as text
 use Rattle.texts.proofs.text.Reads as telling
 
 pub place-asks-nothing : (κs : Lfts 1) (a : _) → placing.Asked κs a
@@ -15,12 +19,20 @@ place-asks-nothing κs a = tt
 pub place-determined : (κs : Lfts 1) (a : _) (x y : _) (s t : _) → placing.Post κs a x s → placing.Post κs a y t → x ≡ y
 place-determined κs a x y s t p q = alike p q
 
+pub place-reads : (κs : Lfts 1) (a : _) (last : Lasts place.ended κs a)
+    → (now (atExit place.ended κs a last .0) ≡ now (a .0)) × (now (atExit place.ended κs a last .1 .0) ≡ now (a .1 .0))
+place-reads κs a last = (refl, refl)
+
 pub text-asks-nothing : (κs : Lfts 2) (a : _) → telling.Asked κs a
 text-asks-nothing κs a = tt
 
 pub text-determined : (κs : Lfts 2) (a : _) (x y : _) (s t : _) → telling.Post κs a x s → telling.Post κs a y t
     → (now x ≡ now y) × (ptr x ≡ ptr y) × (now (s .1 .1 .1 .1 .0) ≡ now (t .1 .1 .1 .1 .0))
 text-determined κs a x y s t p q = (alike (p .0) (q .0), alike (p .1 .0) (q .1 .0), alike (p .1 .1) (q .1 .1))
+
+pub text-reads : (κs : Lfts 2) (a : _) (last : Lasts text.ended κs a)
+    → (now (atExit text.ended κs a last .0) ≡ now (a .0)) × (now (atExit text.ended κs a last .1 .0) ≡ now (a .1 .0))
+text-reads κs a last = (refl, refl)
 
 -- ---- the other table has no influence: two calls whose chosen tables have the same bytes answer alike,
 -- and where the chosen table is one and the same, by the same part of it
