@@ -1,19 +1,29 @@
 -- The valve, `valve`, of our functions: what an accepted call answers is what the desk holds that it returns.
--- From the contracts' equations, by what an answer says of its state (rules/proofs/Valve.antt). Assumes nothing.
-use Prim.Native.Nat.{ℕ, _≤_}
-use mathlib.Core.Path.{_≡_, refl}
+-- From the contracts' equations, by what an answer says of its state (rules/proofs/Valve.antt), and by where an exercise's answers lie. Assumes nothing.
+use Prim.Native.Nat.{ℕ, _+_, _-_, _*_, _≤_, _<_}
+use native.Mathlib.Omega.{arith}
+use mathlib.Core.Path.{_≡_, refl, ap, _∙_}
 use mathlib.Core.Logic.{_↔_}
-use mathlib.Core.List.{[]}
+use mathlib.Core.List.{List, []}
+use lib.ListN.{getD, drop, List·getD-append}
 use native.Mathlib.Decide.{ℕ-discrete}
 use lib.Dec.{eqb}
 use borrow.Author.Tests.{ne-eqb}
 use Rattle.numbers.proofs.Tests.{not-iff}
 use Rattle.card.specs.declared.Card.{Card}
 use Rattle.causes.specs.Held.{heldIn, ifHeld, listed, lowest, howMany}
+use Rattle.state.specs.declared.State.{State}
+use Rattle.rules.specs.declared.Answer.{Answer}
+use Rattle.rules.specs.Answer.{answerBytes, answerAt}
+use Rattle.rules.specs.After.{after}
 use Rattle.rules.proofs.Valve.{Shows, none-shows, advance-shows, after-shows, mask-held}
 use Rattle.desk.specs.declared.Outcome.{Outcome}
-use Rattle.demands.specs.Demand2.{Begins}
-use Rattle.demands.specs.Valve.{ValveIs, Valve}
+use Rattle.file.specs.File.{cardIn}
+use Rattle.file.specs.Read.{tickCount, drive}
+use Rattle.exercise.specs.Answers.{answers}
+use Rattle.exercise.proofs.Buffer.{answers-length, answers-byte}
+use Rattle.demands.specs.Demand2.{Begins, Answered}
+use Rattle.demands.specs.Valve.{ValveIs, OfOutcome, OfEach, Valve}
 use Rattle.demands.proofs.Functions.{functions}
 use Rattle.demands.proofs.Demand2.{demand2}
 
@@ -28,23 +38,46 @@ byte-none m few = (λ e. rw e none-listed, go (ℕ-discrete m 0))
     go (yes e) n = e
     go (no f) n = absurd (mask-held m few .0 (not-iff (eqb m 0) .1 (ne-eqb m 0 f)) n)
 
-valve-is : (o : Outcome) → Shows (o .answer) (o .desk .state) → ValveIs o
+valve-is : (a : Answer) (s : State) → Shows a s → ValveIs a s
 unfolding lowest howMany
-valve-is o w = record {
-  by-causes = rw (w .causes) (mask-held (o .desk .state .causes) (w .most));
-  by-byte = rw (w .causes) (byte-none (o .desk .state .causes) (w .most));
+valve-is a s w = record {
+  by-causes = rw (w .causes) (mask-held (s .causes) (w .most));
+  by-byte = rw (w .causes) (byte-none (s .causes) (w .most));
   byte = w .causes;
   lowest = w .lowest;
   count = w .held;
 }
 
-begins : (card : Card) (o : Outcome) → Begins card o → ValveIs o
-begins card o b = valve-is o (rw (b .desk, b .answer) none-shows)
+begins : (card : Card) (o : Outcome) → Begins card o → OfOutcome o
+begins card o b = valve-is _ _ (rw (b .desk, b .answer) none-shows)
+
+-- ---- the answers of an exercise
+module _ (file : List ℕ) (card : ℕ) (buffer left : List ℕ) (e : Answered file card buffer left) where
+  byte-is : (i j : ℕ) → i < tickCount file → j < 8
+      → getD left (8 * i + j) 0 ≡ getD (answerBytes (after (cardIn file (card - 1)) (drive file) (i + 1) .answer)) j 0
+  byte-is i j h l =
+      let all = answers-length (cardIn file (card - 1)) (drive file) (tickCount file) in
+      ap (λ (x : List ℕ). getD x (8 * i + j) 0) e
+      ∙ List·getD-append (answers (cardIn file (card - 1)) (drive file) (tickCount file)) (drop (8 * tickCount file) buffer) 0 (8 * i + j) (omega arith)
+      ∙ answers-byte (cardIn file (card - 1)) (drive file) (tickCount file) i j h l
+
+  each : OfEach file card left
+  unfolding answerAt
+  each i h =
+      let w = after-shows (cardIn file (card - 1)) (drive file) (i + 1) in
+      valve-is _ _ (record {
+        causes = byte-is i 5 h (omega arith) ∙ w .causes;
+        most = w .most;
+        lowest = byte-is i 6 h (omega arith) ∙ w .lowest;
+        held = byte-is i 7 h (omega arith) ∙ w .held;
+      })
 
 pub valve : Valve functions
 valve = record {
   opening = λ card o f z. begins card o (demand2 .opening card o f .1 z);
-  tick = λ d x J o K f z. let g = demand2 .tick d x J o K f .1 z .2 in valve-is o (rw (g .desk, g .answer) (advance-shows _ _ _));
-  step-back = λ d k J o K f z. let g = demand2 .step-back d k J o K f .1 z .1 in valve-is o (rw (g .desk, g .answer) (after-shows _ _ _));
+  tick = λ d x J o K f z. let g = demand2 .tick d x J o K f .1 z .2 in valve-is _ _ (rw (g .desk, g .answer) (advance-shows _ _ _));
+  step-back = λ d k J o K f z. let g = demand2 .step-back d k J o K f .1 z .1 in valve-is _ _ (rw (g .desk, g .answer) (after-shows _ _ _));
   restart = λ d o f z. begins (d .card) o (demand2 .restart d o f .1 z);
+  exercise = λ file card B x g C f z. each file card B C (demand2 .exercise file card B x g C f .1 z .2);
+  host = λ file card B x g C f z. each file card B C (demand2 .host file card B x g C f .1 z .3);
 }
