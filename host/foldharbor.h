@@ -4,7 +4,8 @@
  *   foldharbor_run_exercise   runs a whole exercise and gives an answer for each tick
  *   foldharbor_text           finds a message's text in a table of texts, in one of two languages
  *
- * Link with libhost.a. Usable from C and from C++. Nothing is kept from one call to the next.
+ * Link with libhost.a. Usable from C and from C++. Nothing is kept from one call to the next, and no call waits, allocates
+ * or reads a clock: threads may call at the same time, each with a buffer of its own.
  */
 #ifndef FOLDHARBOR_H
 #define FOLDHARBOR_H
