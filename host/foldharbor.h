@@ -5,7 +5,7 @@
  *   foldharbor_text           finds a message's text in a table of texts, in one of two languages
  *
  * Link with libhost.a. Usable from C and from C++. Nothing is kept from one call to the next, and no call waits, allocates
- * or reads a clock: threads may call at the same time, each with a buffer of its own.
+ * or reads a clock: threads may call at the same time, each with a buffer of its own, while nobody writes what is read.
  */
 #ifndef FOLDHARBOR_H
 #define FOLDHARBOR_H

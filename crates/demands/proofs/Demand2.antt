@@ -35,12 +35,13 @@ use Rattle.desk.specs.Calls.{openOutcome, tickRefusal, tickOutcome, tickJournal
 use Rattle.desk.proofs.Calls as Calls
 use Rattle.file.specs.File.{cardCount, runCount, cardIn}
 use Rattle.file.specs.Read.{tickCount, drive, readRefusal, readOutcome}
+use Rattle.file.proofs.Runs.{tick-is}
 use Rattle.exercise.specs.Answers.{answers}
 use Rattle.exercise.specs.Run.{exerciseRefusal, exerciseOutcome, exerciseBuffer}
 use Rattle.exercise.proofs.Outcome.{run-number, buffer-yes}
 use Rattle.exercise.proofs.Buffer.{answers-length}
 use Rattle.demands.specs.Ranges.{DeskFits, freshOf}
-use Rattle.demands.specs.Demand2.{RecordOf, Gives, Begins, WrittenAt, Answered, Demand2}
+use Rattle.demands.specs.Demand2.{RecordOf, Gives, Begins, WrittenAt, Driven, Answered, Demand2}
 use Rattle.demands.proofs.Functions.{functions, opens-is, ticks-is, steps-back-is, steps-back-reads, restarts-is}
 use Rattle.demands.proofs.Functions.{reads-is, runs-is, hosts-is}
 use Rattle.demands.proofs.Exactly.{exactly}
@@ -137,6 +138,9 @@ read-yes : (file : List ℕ) → readRefusal file ≡ 0
 unfolding readOutcome
 read-yes file z = rw (eq-eqb _ _ z) (refl, refl, refl)
 
+driven : (file : List ℕ) → Driven file
+driven file j i l from to = tick-is file j (runCount file) i l from to
+
 module _ (file : List ℕ) (card : ℕ) (B : List ℕ) (z : exerciseRefusal file card (length B) ≡ 0) where
   run-ticks : exerciseOutcome file card (length B) .ticks ≡ tickCount file
   unfolding exerciseOutcome
@@ -177,12 +181,12 @@ demand2 = record {
       let e = runs-is file card B g C x f in
       rw (e .0, e .2) (
         rw run-number (exactly _ _ refl (exercise-first file card B)),
-        λ a. let z = rw run-number at a in (run-ticks file card B z, e .1, answered file card B z),
+        λ a. let z = rw run-number at a in (run-ticks file card B z, e .1, driven file, answered file card B z),
       );
   host = λ file card B x g C f.
       let e = hosts-is file card B g C x f in
       rw (e .0, e .2, host-number) (
         exactly _ _ refl (exercise-first file card B),
-        λ z. let a = host-accepted file card (length B) z in (a .0, rw (a .0) (a .1), e .1, answered file card B z),
+        λ z. let a = host-accepted file card (length B) z in (a .0, rw (a .0) (a .1), e .1, driven file, answered file card B z),
       );
 }

@@ -1,9 +1,11 @@
--- Our functions as the demands speak of calls: what a function asks and what it may return is what its contract says, as the check reads it off the
--- source (`Asked` and `Post` of the generated module `Reads`), and what its parameters may be at exit is what their types say (`ended`).
--- `now` is what a lent slice holds. Each contract is an equation: the laws below take it out, and nothing else of the relations is used.
+-- Our functions as the demands speak of calls. What a function asks is its `requires`, what it may return is what it is proved to show (`Post` of the
+-- generated module `Reads`, its `ensures` as the check reads them off the source), and what its parameters may be at exit is what their types say (`ended`).
+-- `now` is what a lent slice holds. The laws below take the contracts' equations and the types' out; nothing else of the relations is used.
 use Prim.Native.Nat.{ℕ}
 use mathlib.Core.Path.{_≡_, refl, sym, ap, ap₂, _∙_}
 use mathlib.Core.List.{List, []}
+use base.Logic.{ent, emp, id⊢}
+use borrow.Fn.World.{World, Pr}
 use denote.Ref.{RefT, now}
 use denote.Triple.Clauses.{Ended, Lasts, AtExit, atExit}
 use denote.Triple.Entry.{Args, Res}
@@ -38,6 +40,10 @@ use Rattle.demands.specs.Demand1.{Returning}
 abbrev Lent : List ℕ → Type 0
 Lent bytes = (slice : RefT (List ℕ)) × (now slice ≡ bytes)
 
+-- what a call asks of its caller is there, from nothing
+abbrev FromNothing : ((w : World) → Pr w) → Type 2
+FromNothing requires = (w : World) → ent (w .𝓤) (emp (w .𝓤)) (requires w)
+
 -- a function's `Post`: what its contract says of arguments, a result, and the arguments at exit
 abbrev Said : Ended → Type 1
 Said T = (κs : Lfts (T .signature .lifetimes)) → Args (T .signature) κs → Res (T .signature) κs → AtExit T κs → Type 0
@@ -47,42 +53,42 @@ record Returned (T : Ended) (Post : Said T) (κs : Lfts (T .signature .lifetimes
     (Left : AtExit T κs → Type 0) : Type 0 where
   last : Lasts T κs args
   post : Post κs args x (atExit T κs args last)
-  left : Left (atExit T κs args last)
+  leaves : Left (atExit T κs args last)
 
 -- `exit .0` is the first parameter at exit, the file; `exit .1 .1 .0` the third, the journal or the buffer
 pub functions : Functions
 functions =
     record {
       opens = λ card out. (κs : Lfts 0) × (exit : _) × opening.Post κs (card, tt) out exit;
-      opens-asks = λ card. (κs : Lfts 0) → opening.Asked κs (card, tt);
+      opens-asks = λ card. (κs : Lfts 0) → FromNothing (opening.requires κs (card, tt) tt);
       ticks = λ desk sample journal out left.
           (κs : Lfts 1) × (j : Lent journal)
           × Returned tickCall.ended ticking.Post κs (desk, (sample, (j .0, tt))) out (λ exit. now (exit .1 .1 .0) ≡ left);
-      ticks-asks = λ desk sample journal. (κs : Lfts 1) (j : Lent journal) → ticking.Asked κs (desk, (sample, (j .0, tt)));
+      ticks-asks = λ desk sample journal. (κs : Lfts 1) (j : Lent journal) → FromNothing (ticking.requires κs (desk, (sample, (j .0, tt))) tt);
       steps-back = λ desk k journal out left.
           (κs : Lfts 1) × (j : Lent journal)
           × Returned backCall.ended backing.Post κs (desk, (k, (j .0, tt))) out (λ exit. now (exit .1 .1 .0) ≡ left);
-      steps-back-asks = λ desk k journal. (κs : Lfts 1) (j : Lent journal) → backing.Asked κs (desk, (k, (j .0, tt)));
+      steps-back-asks = λ desk k journal. (κs : Lfts 1) (j : Lent journal) → FromNothing (backing.requires κs (desk, (k, (j .0, tt))) tt);
       restarts = λ desk out. (κs : Lfts 0) × (exit : _) × restarting.Post κs (desk, tt) out exit;
-      restarts-asks = λ desk. (κs : Lfts 0) → restarting.Asked κs (desk, tt);
+      restarts-asks = λ desk. (κs : Lfts 0) → FromNothing (restarting.requires κs (desk, tt) tt);
       reads = λ file counts file-left.
           (κs : Lfts 1) × (f : Lent file) × Returned readCall.ended reading.Post κs (f .0, tt) counts (λ exit. now (exit .0) ≡ file-left);
-      reads-asks = λ file. (κs : Lfts 1) (f : Lent file) → reading.Asked κs (f .0, tt);
+      reads-asks = λ file. (κs : Lfts 1) (f : Lent file) → FromNothing (reading.requires κs (f .0, tt) tt);
       runs = λ file card buffer total file-left left.
           (κs : Lfts 2) × (f : Lent file) × (b : Lent buffer)
           × Returned runCall.ended running.Post κs (f .0, (card, (b .0, tt))) total
           (λ exit. (now (exit .0) ≡ file-left) × (now (exit .1 .1 .0) ≡ left));
       runs-asks = λ file card buffer.
-          (κs : Lfts 2) (f : Lent file) (b : Lent buffer) → running.Asked κs (f .0, (card, (b .0, tt)));
+          (κs : Lfts 2) (f : Lent file) (b : Lent buffer) → FromNothing (running.requires κs (f .0, (card, (b .0, tt))) tt);
       hosts = λ file card buffer number file-left left.
           (κs : Lfts 2) × (f : Lent file) × (b : Lent buffer)
           × Returned hostCall.ended hosting.Post κs (f .0, (card, (b .0, tt))) number
           (λ exit. (now (exit .0) ≡ file-left) × (now (exit .1 .1 .0) ≡ left));
       hosts-asks = λ file card buffer.
-          (κs : Lfts 2) (f : Lent file) (b : Lent buffer) → hosting.Asked κs (f .0, (card, (b .0, tt)));
+          (κs : Lfts 2) (f : Lent file) (b : Lent buffer) → FromNothing (hosting.requires κs (f .0, (card, (b .0, tt))) tt);
     }
 
--- ---- the equations of the contracts
+-- ---- the equations of the contracts, and of the slices that are lent to be read
 pub opens-is : (card : Card) (o : Outcome) → functions .opens card o → o ≡ openOutcome card
 unfolding functions
 opens-is card o f = f .2
@@ -90,7 +96,7 @@ opens-is card o f = f .2
 module _ (d : Desk) (x : Sample) (journal : List ℕ) (o : Outcome) (left : List ℕ) where
   pub ticks-is : functions .ticks d x journal o left → (o ≡ tickOutcome d x journal) × (left ≡ tickJournal d x journal)
   unfolding functions
-  ticks-is f = (f .2 .post .0 ∙ ap (tickOutcome d x) (f .1 .1), sym (f .2 .left) ∙ f .2 .post .1 ∙ ap (tickJournal d x) (f .1 .1))
+  ticks-is f = (f .2 .post .0 ∙ ap (tickOutcome d x) (f .1 .1), sym (f .2 .leaves) ∙ f .2 .post .1 ∙ ap (tickJournal d x) (f .1 .1))
 
 module _ (d : Desk) (k : ℕ) (journal : List ℕ) (o : Outcome) (left : List ℕ) (f : functions .steps-back d k journal o left) where
   pub steps-back-is : o ≡ backOutcome d k journal
@@ -99,7 +105,7 @@ module _ (d : Desk) (k : ℕ) (journal : List ℕ) (o : Outcome) (left : List �
 
   pub steps-back-reads : left ≡ journal
   unfolding functions
-  steps-back-reads = sym (f .2 .left) ∙ f .1 .1
+  steps-back-reads = sym (f .2 .leaves) ∙ f .1 .1
 
 pub restarts-is : (d : Desk) (o : Outcome) → functions .restarts d o → o ≡ restartOutcome d
 unfolding functions
@@ -107,7 +113,7 @@ restarts-is d o f = f .2
 
 pub reads-is : (file : List ℕ) (c : Counts) (file-left : List ℕ) → functions .reads file c file-left → (c ≡ readOutcome file) × (file-left ≡ file)
 unfolding functions
-reads-is file c file-left f = (f .2 .post ∙ ap readOutcome (f .1 .1), sym (f .2 .left) ∙ f .1 .1)
+reads-is file c file-left f = (f .2 .post ∙ ap readOutcome (f .1 .1), sym (f .2 .leaves) ∙ f .1 .1)
 
 module _ (file : List ℕ) (card : ℕ) (buffer file-left left : List ℕ) where
   pub runs-is : (x : Total) → functions .runs file card buffer x file-left left
@@ -115,8 +121,8 @@ module _ (file : List ℕ) (card : ℕ) (buffer file-left left : List ℕ) where
   unfolding functions
   runs-is x f = (
     f .3 .post .0 ∙ ap₂ (λ (a b : List ℕ). exerciseOutcome a card (length b)) (f .1 .1) (f .2 .1),
-    sym (f .3 .left .0) ∙ f .1 .1,
-    sym (f .3 .left .1) ∙ f .3 .post .1 ∙ ap₂ (λ (a b : List ℕ). exerciseBuffer a card b) (f .1 .1) (f .2 .1),
+    sym (f .3 .leaves .0) ∙ f .1 .1,
+    sym (f .3 .leaves .1) ∙ f .3 .post .1 ∙ ap₂ (λ (a b : List ℕ). exerciseBuffer a card b) (f .1 .1) (f .2 .1),
   )
 
   pub hosts-is : (x : ℕ) → functions .hosts file card buffer x file-left left
@@ -124,42 +130,46 @@ module _ (file : List ℕ) (card : ℕ) (buffer file-left left : List ℕ) where
   unfolding functions
   hosts-is x f = (
     f .3 .post .0 ∙ ap₂ (λ (a b : List ℕ). hostNumber (exerciseOutcome a card (length b))) (f .1 .1) (f .2 .1),
-    sym (f .3 .left .0) ∙ f .1 .1,
-    sym (f .3 .left .1) ∙ f .3 .post .1 ∙ ap₂ (λ (a b : List ℕ). exerciseBuffer a card b) (f .1 .1) (f .2 .1),
+    sym (f .3 .leaves .0) ∙ f .1 .1,
+    sym (f .3 .leaves .1) ∙ f .3 .post .1 ∙ ap₂ (λ (a b : List ℕ). exerciseBuffer a card b) (f .1 .1) (f .2 .1),
   )
 
 -- ---- nothing is asked, and something meets them, whatever is handed over
+-- some slice with these bytes
 abbrev lent : (bytes : List ℕ) → Lent bytes
 lent bytes = (record { ptr = (0, 0); name = 0; now = bytes }, refl)
+
+from-nothing : (w : World) → ent (w .𝓤) (emp (w .𝓤)) (emp (w .𝓤))
+from-nothing w = id⊢ (w .𝓤) (emp (w .𝓤))
 
 pub returning : Returning functions
 unfolding functions
 returning = record {
-  opening = λ card. (λ κs. tt, openOutcome card, (tt, (card, tt), refl));
+  opening = λ card. (λ κs. from-nothing, openOutcome card, (tt, (card, tt), refl));
   tick = λ d x J.
       let K = tickJournal d x J in (
-        λ κs j. tt,
+        λ κs j. from-nothing,
         tickOutcome d x J,
         K,
-        (([], tt), lent J, record { last = (tt, (tt, (K, tt))); post = (refl, refl); left = refl }),
+        (([], tt), lent J, record { last = (tt, (tt, (K, tt))); post = (refl, refl); leaves = refl }),
       );
-  step-back = λ d k J. (λ κs j. tt, backOutcome d k J, J, (([], tt), lent J, record { last = (tt, (tt, (tt, tt))); post = refl; left = refl }));
-  restart = λ d. (λ κs. tt, restartOutcome d, (tt, (d, tt), refl));
-  reader = λ file. (λ κs f. tt, readOutcome file, file, (([], tt), lent file, record { last = (tt, tt); post = refl; left = refl }));
+  step-back = λ d k J. (λ κs j. from-nothing, backOutcome d k J, J, (([], tt), lent J, record { last = (tt, (tt, (tt, tt))); post = refl; leaves = refl }));
+  restart = λ d. (λ κs. from-nothing, restartOutcome d, (tt, (d, tt), refl));
+  reader = λ file. (λ κs f. from-nothing, readOutcome file, file, (([], tt), lent file, record { last = (tt, tt); post = refl; leaves = refl }));
   exercise = λ file card B.
       let C = exerciseBuffer file card B in (
-        λ κs f b. tt,
+        λ κs f b. from-nothing,
         exerciseOutcome file card (length B),
         file,
         C,
-        (([], ([], tt)), lent file, lent B, record { last = (tt, (tt, (C, tt))); post = (refl, refl); left = (refl, refl) }),
+        (([], ([], tt)), lent file, lent B, record { last = (tt, (tt, (C, tt))); post = (refl, refl); leaves = (refl, refl) }),
       );
   host = λ file card B.
       let C = exerciseBuffer file card B in (
-        λ κs f b. tt,
+        λ κs f b. from-nothing,
         hostNumber (exerciseOutcome file card (length B)),
         file,
         C,
-        (([], ([], tt)), lent file, lent B, record { last = (tt, (tt, (C, tt))); post = (refl, refl); left = (refl, refl) }),
+        (([], ([], tt)), lent file, lent B, record { last = (tt, (tt, (C, tt))); post = (refl, refl); leaves = (refl, refl) }),
       );
 }

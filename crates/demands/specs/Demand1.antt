@@ -14,8 +14,9 @@ use Rattle.file.specs.declared.Total.{Total}
 use Rattle.demands.specs.Functions.{Functions}
 use Rattle.demands.specs.Ranges.{zeroDesk, zeroAnswer}
 
--- whatever is handed over, the call may be made, and something is returned that its contract allows
-pub record Returning (F : Functions) : Type 0 where
+-- whatever is handed over, the call may be made, and something is returned that its contract allows. `left` is the journal or the buffer afterwards,
+-- `file-left` the file
+pub record Returning (F : Functions) : Type 2 where
   pub opening : (card : Card) → F .opens-asks card × (out : Outcome) × F .opens card out
   pub tick : (desk : Desk) (sample : Sample) (journal : List ℕ) → F .ticks-asks desk sample journal
       × (out : Outcome) × (left : List ℕ) × F .ticks desk sample journal out left
@@ -38,7 +39,7 @@ pub record Refused (numbers : List ℕ) (back : Desk) (out : Outcome) : Type 0 w
   pub desk : out .desk ≡ back
   pub answer : out .answer ≡ zeroAnswer
 
-pub record Demand1 (F : Functions) : Type 0 where
+pub record Demand1 (F : Functions) : Type 2 where
   pub returning : Returning F
   pub opening : (card : Card) (out : Outcome) → F .opens card out →
       (out .refusal ≡ 0 → ⊥) → Refused (4 ∷ []) zeroDesk out
@@ -48,7 +49,7 @@ pub record Demand1 (F : Functions) : Type 0 where
       (out .refusal ≡ 0 → ⊥) → Refused (5 ∷ 6 ∷ 8 ∷ 9 ∷ []) desk out × (left ≡ journal)
   pub restart : (desk : Desk) (out : Outcome) → F .restarts desk out →
       (out .refusal ≡ 0 → ⊥) → Refused (5 ∷ []) desk out
-  -- the reader and the exercise: counts of zeros. `file-left` is the file afterwards
+  -- the reader and the exercise: counts of zeros
   pub reader : (file : List ℕ) (counts : Counts) (file-left : List ℕ) → F .reads file counts file-left →
       (counts .refusal ≡ 0 → ⊥) → OneOf (10 ∷ 4 ∷ 11 ∷ 9 ∷ []) (counts .refusal)
       × (counts .cards ≡ 0) × (counts .runs ≡ 0) × (counts .ticks ≡ 0) × (file-left ≡ file)

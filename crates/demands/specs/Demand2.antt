@@ -1,7 +1,8 @@
 -- Demand 2: an accepted tick gives exactly the answer and the desk of the rules, and a desk in range again; each refusal is given exactly when
--- the paper says. The same of every other call. The rules are `advance`, a tick; `after`, a fresh state fed so many records; `answers`, their bytes.
--- Where a record, a card or a run lies among bytes is said by record/specs/Record.antt and file/specs/File.antt.
-use Prim.Native.Nat.{ℕ, _+_, _-_, _*_, _≤_}
+-- the paper says. The same of every other call. The rules are `advance`, a tick; `after`, a fresh state fed so many records; `answers`, the bytes of the
+-- answers. Where a record, an answer, a card or a run lies among bytes is said by record/specs/Record.antt, rules/specs/Answer.antt, file/specs/File.antt.
+-- That an answer tells the causes that are held, and how many, is a page of its own, Valve.antt.
+use Prim.Native.Nat.{ℕ, _+_, _-_, _*_, _≤_, _<_}
 use mathlib.Core.Path.{_≡_}
 use mathlib.Core.List.{List, _++_}
 use lib.ListN.{take, drop}
@@ -17,7 +18,8 @@ use Rattle.desk.specs.declared.Desk.{Desk}
 use Rattle.desk.specs.declared.Outcome.{Outcome}
 use Rattle.file.specs.declared.Counts.{Counts}
 use Rattle.file.specs.declared.Total.{Total}
-use Rattle.file.specs.File.{cardCount, runCount, cardIn}
+use Rattle.file.specs.File.{cardCount, runCount, cardIn, runRecord}
+use Rattle.file.specs.Runs.{ticksTo}
 use Rattle.file.specs.Read.{tickCount, drive}
 use Rattle.exercise.specs.Answers.{answers}
 use Rattle.demands.specs.Functions.{Functions}
@@ -50,6 +52,10 @@ pub record Begins (card : Card) (out : Outcome) : Type 0 where
 abbrev pub WrittenAt : ℕ → Record → List ℕ → List ℕ → Type 0
 WrittenAt n rec journal left = left ≡ take (8 * n) journal ++ recordBytes rec ++ drop (8 * n + 8) journal
 
+-- the record of a run is that of each of its ticks
+abbrev pub Driven : List ℕ → Type 0
+Driven file = (j i : ℕ) → j < runCount file → ticksTo file j ≤ i → i < ticksTo file (j + 1) → drive file i ≡ runRecord file j
+
 -- 8 bytes a tick, from a fresh desk of the card; later bytes keep their values
 abbrev pub Answered : List ℕ → ℕ → List ℕ → List ℕ → Type 0
 Answered file card buffer left =
@@ -77,9 +83,9 @@ pub record Demand2 (F : Functions) : Type 0 where
   pub exercise : (file : List ℕ) (card : ℕ) (buffer : List ℕ) (total : Total) (file-left left : List ℕ) →
       F .runs file card buffer total file-left left →
       ExactlyWhen (total .refusal) (exerciseReasons file card buffer)
-      × (total .refusal ≡ 0 → (total .ticks ≡ tickCount file) × (file-left ≡ file) × Answered file card buffer left)
+      × (total .refusal ≡ 0 → (total .ticks ≡ tickCount file) × (file-left ≡ file) × Driven file × Answered file card buffer left)
   -- a refusal is 10,000 plus its number: what is above 10,000 is that number, 0 where the call is accepted
   pub host : (file : List ℕ) (card : ℕ) (buffer : List ℕ) (number : ℕ) (file-left left : List ℕ) →
       F .hosts file card buffer number file-left left →
       ExactlyWhen (number - 10000) (exerciseReasons file card buffer)
-      × (number - 10000 ≡ 0 → (number ≡ tickCount file) × (number ≤ 7200) × (file-left ≡ file) × Answered file card buffer left)
+      × (number - 10000 ≡ 0 → (number ≡ tickCount file) × (number ≤ 7200) × (file-left ≡ file) × Driven file × Answered file card buffer left)

@@ -1,18 +1,15 @@
 -- The valve is open exactly when a cause is held: said of the causes that the desk holds after an accepted call, and of the byte of its answer.
--- With them the other two bytes: the lowest-numbered held cause (0 if none), and how many are held.
--- The same of every answer that an accepted exercise writes: after the i-th tick, from 0, a fresh desk fed i + 1 records holds these causes.
+-- With them the other two bytes: the lowest-numbered held cause (0 if none), and how many are held. A part of demand 2.
+-- The same of every answer that an accepted exercise writes.
 use Prim.Native.Nat.{ℕ, _+_, _-_, _*_, _<_}
 use mathlib.Core.Path.{_≡_}
-use mathlib.Core.Bool.{true}
 use mathlib.Core.Logic.{_↔_}
 use mathlib.Core.List.{List, []}
-use lib.ListN.{length}
+use lib.ListN.{length, getD}
 use Rattle.card.specs.declared.Card.{Card}
 use Rattle.record.specs.declared.Sample.{Sample}
 use Rattle.causes.specs.Held.{heldIn, listed, firstOr}
 use Rattle.state.specs.declared.State.{State}
-use Rattle.rules.specs.declared.Answer.{Answer}
-use Rattle.rules.specs.Answer.{valveOpen, answerAt}
 use Rattle.rules.specs.After.{after}
 use Rattle.desk.specs.declared.Desk.{Desk}
 use Rattle.desk.specs.declared.Outcome.{Outcome}
@@ -25,19 +22,22 @@ use Rattle.demands.specs.Functions.{Functions}
 abbrev pub held : State → List ℕ
 held state = listed (heldIn (state .causes))
 
-pub record ValveIs (answer : Answer) (state : State) : Type 0 where
-  pub by-causes : (valveOpen answer ≡ true) ↔ (held state ≡ [] → ⊥)
-  pub by-byte : (answer .causes ≡ 0) ↔ (held state ≡ [])
-  pub byte : answer .causes ≡ state .causes
-  pub lowest : answer .lowest ≡ firstOr 0 (held state)
-  pub count : answer .held ≡ length (held state)
+-- what three bytes of an answer say: the causes (the valve is open exactly when this byte is not 0), the lowest of them, how many
+pub record ValveIs (causes lowest many : ℕ) (state : State) : Type 0 where
+  pub open-when : (causes ≡ 0 → ⊥) ↔ (held state ≡ [] → ⊥)
+  pub causes-are : causes ≡ state .causes
+  pub lowest-is : lowest ≡ firstOr 0 (held state)
+  pub many-are : many ≡ length (held state)
 
+-- the answer and the desk of an outcome
 abbrev pub OfOutcome : Outcome → Type 0
-OfOutcome out = ValveIs (out .answer) (out .desk .state)
+OfOutcome out = ValveIs (out .answer .causes) (out .answer .lowest) (out .answer .held) (out .desk .state)
 
+-- the last three bytes of each answer, and a fresh desk of the card fed the records up to its tick
 abbrev pub OfEach : List ℕ → ℕ → List ℕ → Type 0
 OfEach file card left =
-    (i : ℕ) → i < tickCount file → ValveIs (answerAt left (8 * i)) (after (cardIn file (card - 1)) (drive file) (i + 1) .state)
+    (i : ℕ) → i < tickCount file → ValveIs (getD left (8 * i + 5) 0) (getD left (8 * i + 6) 0) (getD left (8 * i + 7) 0)
+    (after (cardIn file (card - 1)) (drive file) (i + 1) .state)
 
 pub record Valve (F : Functions) : Type 0 where
   pub opening : (card : Card) (out : Outcome) → F .opens card out → out .refusal ≡ 0 → OfOutcome out

@@ -20,12 +20,12 @@ abbrev cards : ℕ → List ℕ
 cards zero = []
 cards (suc m) = card ++ cards m
 
--- runs of 1 and of 2 ticks: the train stands in PRE under Clear; at 1431, backward, remote stop on
+-- runs of 1 and of 2 ticks: the train stands in PRE under Clear; at 1430, backward, remote stop on
 abbrev standing : List ℕ
 standing = 1 ∷ 0 ∷ 0 ∷ 0 ∷ 4 ∷ 2 ∷ 1 ∷ 72 ∷ 2 ∷ 0 ∷ []
 
 abbrev stopped : List ℕ
-stopped = 2 ∷ 0 ∷ 151 ∷ 5 ∷ 4 ∷ 2 ∷ 1 ∷ 80 ∷ 2 ∷ 2 ∷ []
+stopped = 2 ∷ 0 ∷ 150 ∷ 5 ∷ 4 ∷ 2 ∷ 1 ∷ 80 ∷ 2 ∷ 2 ∷ []
 
 -- a card and two runs: 1 and 2, then 10, 30 and 50 as offsets and total
 abbrev header : List ℕ
@@ -34,12 +34,12 @@ header = 1 ∷ 0 ∷ 2 ∷ 0 ∷ 10 ∷ 0 ∷ 30 ∷ 0 ∷ 50 ∷ 0 ∷ []
 abbrev good : List ℕ
 good = header ++ card ++ standing ++ stopped
 
--- its answers: P 1400 and T 1600 in each tick; in the last two NZ2 and NZ4 are held, the lowest is 2
+-- its answers: P 1400 and T 1600 in each tick; in the last two NZ4 alone is held: 8, the lowest 4, 1 held
 abbrev answers : List ℕ
 answers =
     (120 ∷ 5 ∷ 64 ∷ 6 ∷ 0 ∷ 0 ∷ 0 ∷ 0 ∷ [])
-    ++ (120 ∷ 5 ∷ 64 ∷ 6 ∷ 0 ∷ 10 ∷ 2 ∷ 2 ∷ [])
-    ++ (120 ∷ 5 ∷ 64 ∷ 6 ∷ 0 ∷ 10 ∷ 2 ∷ 2 ∷ [])
+    ++ (120 ∷ 5 ∷ 64 ∷ 6 ∷ 0 ∷ 8 ∷ 4 ∷ 1 ∷ [])
+    ++ (120 ∷ 5 ∷ 64 ∷ 6 ∷ 0 ∷ 8 ∷ 4 ∷ 1 ∷ [])
 
 -- a card and no run
 abbrev oneCard : List ℕ

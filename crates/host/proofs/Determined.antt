@@ -1,10 +1,12 @@
 -- The host calls' contracts determine what they return and every byte of the buffer: two outcomes that satisfy one are equal. And what a text's place is.
--- They ask nothing of their caller. `Asked` and `Post` are the contract as the check reads it off the source;
+-- They ask nothing of their caller. `requires` and `Post` are the contract as the check reads it off the source;
 -- `s .1 .1 .0` is the buffer, the third parameter, at exit.
 -- `atExit` is what the parameters hold afterwards, by their types: a slice that is lent to be read holds what it held.
 use mathlib.Core.Path.{_≡_, refl}
 use denote.Ref.{now}
+use base.Logic.{emp}
 use contract.Lifetimes.{Lfts}
+use borrow.Fn.World.{World}
 use denote.Triple.Clauses.{Lasts, atExit}
 use Rattle.numbers.proofs.Alike.{alike}
 use Rattle.texts.specs.Text.{chosen}
@@ -14,8 +16,8 @@ use Rattle.host.proofs.foldharbor_run_exercise.Reads as calling
 use Rattle.host.proofs.foldharbor_text as text
 use Rattle.host.proofs.foldharbor_text.Reads as telling
 
-pub call-asks-nothing : (κs : Lfts 2) (a : _) → calling.Asked κs a
-call-asks-nothing κs a = tt
+pub call-asks-nothing : (κs : Lfts 2) (a : _) (w : World) → calling.requires κs a tt w ≡ emp (w .𝓤)
+call-asks-nothing κs a w = refl
 
 pub call-determined : (κs : Lfts 2) (a : _) (x y : _) (s t : _) → calling.Post κs a x s → calling.Post κs a y t
     → (x ≡ y) × (now (s .1 .1 .0) ≡ now (t .1 .1 .0))
@@ -25,8 +27,8 @@ call-determined κs a x y s t p q = (alike (p .0) (q .0), alike (p .1) (q .1))
 pub call-reads : (κs : Lfts 2) (a : _) (last : Lasts call.ended κs a) → now (atExit call.ended κs a last .0) ≡ now (a .0)
 call-reads κs a last = refl
 
-pub text-asks-nothing : (κs : Lfts 1) (a : _) → telling.Asked κs a
-text-asks-nothing κs a = tt
+pub text-asks-nothing : (κs : Lfts 1) (a : _) (w : World) → telling.requires κs a tt w ≡ emp (w .𝓤)
+text-asks-nothing κs a w = refl
 
 pub text-determined : (κs : Lfts 1) (a : _) (x y : _) (s t : _) → telling.Post κs a x s → telling.Post κs a y t → x ≡ y
 text-determined κs a x y s t p q = alike p q

@@ -1,13 +1,15 @@
 -- The contract of `line_of` determines its result and every lent byte: two results that satisfy it are equal.
--- `Asked` and `Post` are the contract as the check reads it off the source: a `requires`, or an `ensures` that says less, breaks these lines.
-use mathlib.Core.Path.{_≡_}
+-- `requires` and `Post` are the contract as the check reads it off the source: a `requires`, or an `ensures` that says less, breaks these lines.
+use mathlib.Core.Path.{_≡_, refl}
 use denote.Ref.{now}
+use base.Logic.{emp}
 use contract.Lifetimes.{Lfts}
+use borrow.Fn.World.{World}
 use Rattle.numbers.proofs.Alike.{alike}
 use Rattle.line.proofs.line_of.Reads as lining
 
-pub line-asks-nothing : (κs : Lfts 1) (a : _) → lining.Asked κs a
-line-asks-nothing κs a = tt
+pub line-asks-nothing : (κs : Lfts 1) (a : _) (w : World) → lining.requires κs a tt w ≡ emp (w .𝓤)
+line-asks-nothing κs a w = refl
 
 -- `s .1 .0` is the line's room, the second parameter, at exit
 pub line-determined : (κs : Lfts 1) (a : _) (x y : _) (s t : _) → lining.Post κs a x s → lining.Post κs a y t

@@ -1,8 +1,8 @@
--- The answer: its marks, its bytes, zeros, and what it says of the valve.
+-- The answer: its marks, its bytes, zeros.
 use Prim.Native.Nat.{ℕ, _+_}
-use mathlib.Core.Bool.{Bool, not, cond}
+use mathlib.Core.Bool.{cond}
 use mathlib.Core.List.{List, [], _∷_, _++_}
-use lib.Dec.{ltb, eqb}
+use lib.Dec.{ltb}
 use lib.ListN.{getD}
 use Rattle.layout.specs.Layout.{u16At, u16Bytes, put}
 use Rattle.signal.specs.declared.Signal.{Signal}
@@ -68,7 +68,3 @@ putAnswer bytes at a = put bytes at (answerBytes a)
 
 abbrev pub noAnswer : Answer
 noAnswer = record { permitted = 0; target = 0; marks = 0; causes = 0; lowest = 0; held = 0 }
-
--- the valve is open exactly when a cause is held
-abbrev pub valveOpen : Answer → Bool
-valveOpen answer = not (eqb (answer .causes) 0)

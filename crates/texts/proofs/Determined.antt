@@ -1,10 +1,12 @@
 -- The contracts of `text_place` and `text` determine the answer: two that satisfy one are equal, of a part both its address and its bytes.
--- They ask nothing of their caller. `Asked` and `Post` are the contract as the check reads it off the source;
+-- They ask nothing of their caller. `requires` and `Post` are the contract as the check reads it off the source;
 -- `s .1 .1 .1 .1 .0` is the refusal, the fifth parameter, at exit.
 -- `atExit` is what the parameters hold afterwards, by their types: a table that is lent to be read holds what it held.
 use mathlib.Core.Path.{_≡_, refl}
 use denote.Ref.{now, ptr}
+use base.Logic.{emp}
 use contract.Lifetimes.{Lfts}
+use borrow.Fn.World.{World}
 use denote.Triple.Clauses.{Lasts, atExit}
 use Rattle.numbers.proofs.Alike.{alike}
 use Rattle.texts.specs.Text.{chosen}
@@ -13,8 +15,8 @@ use Rattle.texts.proofs.text_place.Reads as placing
 use Rattle.texts.proofs.text as text
 use Rattle.texts.proofs.text.Reads as telling
 
-pub place-asks-nothing : (κs : Lfts 1) (a : _) → placing.Asked κs a
-place-asks-nothing κs a = tt
+pub place-asks-nothing : (κs : Lfts 1) (a : _) (w : World) → placing.requires κs a tt w ≡ emp (w .𝓤)
+place-asks-nothing κs a w = refl
 
 pub place-determined : (κs : Lfts 1) (a : _) (x y : _) (s t : _) → placing.Post κs a x s → placing.Post κs a y t → x ≡ y
 place-determined κs a x y s t p q = alike p q
@@ -23,8 +25,8 @@ pub place-reads : (κs : Lfts 1) (a : _) (last : Lasts place.ended κs a)
     → (now (atExit place.ended κs a last .0) ≡ now (a .0)) × (now (atExit place.ended κs a last .1 .0) ≡ now (a .1 .0))
 place-reads κs a last = (refl, refl)
 
-pub text-asks-nothing : (κs : Lfts 2) (a : _) → telling.Asked κs a
-text-asks-nothing κs a = tt
+pub text-asks-nothing : (κs : Lfts 2) (a : _) (w : World) → telling.requires κs a tt w ≡ emp (w .𝓤)
+text-asks-nothing κs a w = refl
 
 pub text-determined : (κs : Lfts 2) (a : _) (x y : _) (s t : _) → telling.Post κs a x s → telling.Post κs a y t
     → (now x ≡ now y) × (ptr x ≡ ptr y) × (now (s .1 .1 .1 .1 .0) ≡ now (t .1 .1 .1 .1 .0))
