@@ -11,9 +11,11 @@ use Rattle.card.specs.declared.Card.{Card}
 use Rattle.card.specs.Card.{CardRanges, cardInRange, shortWait, longWait}
 
 pub card-ranges : (c : Card) → cardInRange c ≡ true → CardRanges c
+unfolding cardInRange
 card-ranges c h = let f = simp (and-iff, leb-iff, either-iff) at h in search needs
 
 pub ranges-card : (c : Card) → CardRanges c → cardInRange c ≡ true
+unfolding cardInRange
 ranges-card c h = simp (and-iff, leb-iff, either-iff) (omega arith, h .wait-either)
 
 -- for `omega`, which reads no `⊎`

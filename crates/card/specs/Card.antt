@@ -57,7 +57,7 @@ pub record CardRanges (card : Card) : Type 0 where
   pub cycle-most : card .cycle ≤ mostCycle
   pub wait-either : (card .wait ≡ shortWait) ⊎ (card .wait ≡ longWait)
 
-abbrev pub cardInRange : Card → Bool
+unfoldable pub cardInRange : Card → Bool
 cardInRange card =
     leb leastSpeed (card .design) && leb (card .design) topSpeed
     && leb leastSpeed (card .set) && leb (card .set) topSpeed

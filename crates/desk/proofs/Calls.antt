@@ -11,7 +11,6 @@ use borrow.Author.Tests.{eq-eqb, ne-eqb, le-ltb, lt-ltb, lt-leb, ltb-false, leb-
 use Rattle.numbers.proofs.Tests.{and-iff, leb-iff}
 use Rattle.refusal.specs.Refusal.{badDesk, shortJournal, fullJournal, backTooFar, badRecord}
 use Rattle.refusal.proofs.First.{both-zero, first-zero}
-use Rattle.card.specs.Card.{cardInRange}
 use Rattle.card.proofs.Ranges.{card-ranges, ranges-card}
 use Rattle.record.specs.declared.Sample.{Sample}
 use Rattle.record.specs.Record.{recordWidth, putRecord}
@@ -19,7 +18,6 @@ use Rattle.record.specs.Sample.{sampleRecord}
 use Rattle.record.proofs.Bytes.{put-fits}
 use Rattle.rules.specs.Tick.{advance}
 use Rattle.rules.specs.After.{after}
-use Rattle.state.specs.State.{stateInRange}
 use Rattle.state.proofs.Ranges.{state-ranges, ranges-state}
 use Rattle.desk.specs.declared.Desk.{Desk}
 use Rattle.journal.specs.Journal.{capacity, records, allInRange}
@@ -31,13 +29,12 @@ use Rattle.desk.specs.Calls.{refused, accepted, deskRefusal, tickRefusal
 pub desk-ranges : (d : Desk) → deskInRange d ≡ true → DeskRanges d
 unfolding deskInRange
 desk-ranges d h =
-    let f = and-iff _ (stateInRange (d .state)) .0 h in
-    let g = and-iff (cardInRange (d .card)) _ .0 (f .0) in
-    record { card = card-ranges (d .card) (g .0); n-most = leb-iff _ _ .0 (g .1); state = state-ranges (d .state) (f .1) }
+    let f = simp (and-iff, leb-iff) at h in
+    record { card = card-ranges (d .card) (f .0 .0); n-most = f .0 .1; state = state-ranges (d .state) (f .1) }
 
 pub ranges-desk : (d : Desk) → DeskRanges d → deskInRange d ≡ true
 unfolding deskInRange
-ranges-desk d h = and-iff _ _ .1 (and-iff _ _ .1 (ranges-card _ (h .card), leb-iff _ _ .1 (h .n-most)), ranges-state _ (h .state))
+ranges-desk d h = simp (and-iff, leb-iff) ((ranges-card _ (h .card), h .n-most), ranges-state _ (h .state))
 
 -- ---- refusals
 passed : (b : Bool) (k x : ℕ) → 0 < k → cond b k x ≡ 0 → (b ≡ false) × (x ≡ 0)

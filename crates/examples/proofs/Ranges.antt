@@ -6,6 +6,8 @@ use lib.Ieee.{ofBits}
 use Rattle.reading.specs.Number.{quantity}
 use Rattle.reading.specs.Speed.{speedAt, speedOf, speedRefusal, speedValue}
 use Rattle.reading.specs.Pressure.{bandAt, pressureAt, pressureOf, pressureRefusal, pressureBand}
+use Rattle.card.specs.Card.{cardInRange}
+use Rattle.record.specs.Record.{recordInRange}
 use Rattle.signal.specs.Ranges.{signalInRange}
 use Rattle.state.specs.State.{stateInRange}
 use Rattle.desk.specs.Desk.{deskInRange}
@@ -14,5 +16,5 @@ use Rattle.examples.specs.Ranges.{ranges}
 unfoldable pub ranges-hold : map (λ row. row .what) ranges ≡ map (λ row. row .is) ranges
 unfolding ranges
     ofBits quantity speedAt speedOf speedRefusal speedValue bandAt pressureAt pressureOf pressureRefusal pressureBand
-    signalInRange stateInRange deskInRange
+    cardInRange recordInRange signalInRange stateInRange deskInRange
 ranges-hold = refl

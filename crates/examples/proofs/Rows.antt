@@ -5,6 +5,8 @@ use mathlib.Core.List.{[], _∷_, map}
 use lib.Ieee.{ofBits}
 use Rattle.reading.specs.Number.{quantity}
 use Rattle.reading.specs.Speed.{speedAt, speedOf, speedValue}
+use Rattle.card.specs.Card.{cardInRange}
+use Rattle.record.specs.Record.{recordInRange}
 use Rattle.record.specs.Flags.{pressed, keysOf}
 use Rattle.codes.specs.Target.{target}
 use Rattle.signal.specs.Speed.{curveValue, signalSpeed}
@@ -32,7 +34,7 @@ use Rattle.examples.specs.Rows.{rows}
 
 -- with `[]` and `_∷_` in scope, a refusal of a short table shows the numbers that differ
 unfoldable pub rows-hold : map (λ row. row .what) rows ≡ map (λ row. row .is) rows
-unfolding rows ticks drive taken atEnd ofBits quantity speedAt speedOf speedValue pressed keysOf target curveValue
+unfolding rows ticks drive taken atEnd ofBits quantity speedAt speedOf speedValue cardInRange recordInRange pressed keysOf target curveValue
     signalSpeed gapMan manByCode curveBegins curveByCode interruptedNext gapNext raiseByCode step3Plus codesNext step4Man ageNow curveHolds manStarts
     curveAged manStarted steps2To6 asksIncreased asksOrdinary cyclicKind cycleLength cyclicLapses cyclicTicks cyclicPrompts lead exceeds promptLapses
     promptStays dueAhead dueAtStart asksAhead asksAtStart promptTicksNext promptKindNext promptedNext heldIn maskOf ifHeld listed firstOr lowest

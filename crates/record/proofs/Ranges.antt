@@ -8,7 +8,9 @@ use Rattle.record.specs.declared.Record.{Record}
 use Rattle.record.specs.Record.{RecordRanges, recordInRange}
 
 pub record-ranges : (r : Record) → recordInRange r ≡ true → RecordRanges r
+unfolding recordInRange
 record-ranges r h = omega (arith, simp (and-iff, leb-iff) at h)
 
 pub ranges-record : (r : Record) → RecordRanges r → recordInRange r ≡ true
+unfolding recordInRange
 ranges-record r h = simp (and-iff, leb-iff) (omega arith)

@@ -26,7 +26,7 @@ pub record RecordRanges (reading : Record) : Type 0 where
   pub band-most : reading .band ≤ topBand
   pub sense-most : reading .sense ≤ reverse
 
-abbrev pub recordInRange : Record → Bool
+unfoldable pub recordInRange : Record → Bool
 recordInRange reading =
     leb (reading .v) topSpeed
     && leb (reading .code) clear
