@@ -257,9 +257,9 @@ pub fn advance(card: Card, state: State, reading: Record) -> AfterTick
     requires { ⌜ CardRanges card × StateRanges state × RecordRanges reading ⌝ }
     ensures { λ x. ⌜ (x ≡ advance card state reading) × StateRanges (x .state) ⌝ }
 {
-    let entered = state::step_1_mode(state, reading);
-    let findings = steps_2_to_9(card, entered, reading);
-    steps_2_to_10(card, entered, reading, findings)
+    let after_step_1 = state::step_1_mode(state, reading);
+    let findings = steps_2_to_9(card, after_step_1, reading);
+    steps_2_to_10(card, after_step_1, reading, findings)
 }
 
 // How many bytes an answer takes.

@@ -270,7 +270,7 @@ pub fn steps_2_to_6(card: Card, signal: Signal, reading: Record, keys: Keys) -> 
     let codes = codes::codes_next(old, reading, keys);
     let t = codes::target(card, reading.code, codes.raise);
     let lowered = step_4_man(signal.man, by_code.man, unchanged, t, reading.v);
-    let aged = step_5_curve(
+    let after_step_5 = step_5_curve(
         card,
         by_code.curve,
         by_code.begins,
@@ -279,8 +279,8 @@ pub fn steps_2_to_6(card: Card, signal: Signal, reading: Record, keys: Keys) -> 
         lowered,
         reading.v,
     );
-    let curve = aged.curve;
-    let man = aged.man;
+    let curve = after_step_5.curve;
+    let man = after_step_5.man;
     let speed = signal_speed(card, curve, man, t);
     SignalStep {
         signal: Signal {
