@@ -6,7 +6,7 @@
 set -eu
 
 [ $# != 1 ] || { echo "usage: sh host/build.sh [OUT SOURCES..]" >&2; exit 2; }
-crate=host # the one whose archive it is
+crate=foldharbor # the one whose archive it is
 here=$(CDPATH='' cd -- "$(dirname -- "$0")" && pwd)
 root=$(dirname -- "$here")
 archive=$root/target/staticlib/lib$crate.a

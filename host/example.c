@@ -94,7 +94,7 @@ int main(int count, char **arguments)
     for (uint32_t card = 1;; card++) {
         uint32_t ticks = foldharbor_run_exercise(exercise, length, card, answers, sizeof answers);
 
-        if (ticks == FOLDHARBOR_NO_CARD) /* the cards before this one were all */
+        if (ticks == FOLDHARBOR_REFUSED + FOLDHARBOR_NO_SUCH_CARD) /* the cards before this one were all */
             return finish(0);
         if (ticks > FOLDHARBOR_REFUSED) {
             printf("refused %u\n", (unsigned)ticks - FOLDHARBOR_REFUSED);

@@ -1,11 +1,44 @@
 /*
- * Foldharbor, the train-protection desk, in two calls:
+ * Foldharbor, the train-protection desk, for C and C++. Link with libfoldharbor.a.
  *
- *   foldharbor_run_exercise   runs a whole exercise and gives an answer for each tick
- *   foldharbor_text           finds a message's text in a table of texts, in one of two languages
+ * A cab that is driven live, ten times a second:
  *
- * Link with libhost.a. Usable from C and from C++. Nothing is kept from one call to the next, and no call waits, allocates
- * or reads a clock: threads may call at the same time, each with a buffer of its own, while nobody writes what is read.
+ *   foldharbor_open            a fresh desk of a card
+ *   foldharbor_tick            the cab's readings in, the answer out
+ *   foldharbor_step_back       strikes the last so many ticks
+ *   foldharbor_restart         strikes all of them
+ *
+ * A whole exercise, a file of cards and runs:
+ *
+ *   foldharbor_read_exercise   judges the file and counts its cards, runs and ticks
+ *   foldharbor_run_exercise    runs it under one of its cards and writes an answer for each tick
+ *
+ * And beside them:
+ *
+ *   foldharbor_card_at, foldharbor_put_card, foldharbor_answer_at, foldharbor_put_answer
+ *                              a card and an answer from their bytes, and to them
+ *   foldharbor_text            finds a message's text in a table of texts, in one of two languages
+ *   foldharbor_version         the version of the archive
+ *
+ * A live host in short (host/live.c is a whole one):
+ *
+ *   static uint8_t journal[FOLDHARBOR_JOURNAL_BYTES];
+ *   foldharbor_outcome out = foldharbor_open(card);
+ *
+ *   while (ten_times_a_second()) {
+ *       out = foldharbor_tick(out.desk, readings_of_the_cab(), journal, sizeof journal);
+ *       if (out.refusal == 0)
+ *           show(out.answer);
+ *       else
+ *           show_fault(out.refusal);
+ *       set_valve(out.desk.state.causes != 0);
+ *   }
+ *
+ * Every call returns, whatever is handed over: any number, any struct and any bytes. What does not fit is refused with a
+ * number, and a refused call changes nothing. What is asked of a host is only that each pointer is good for its length, not
+ * null even if the length is 0, and that bytes which a call writes do not overlap bytes which it reads. Nothing is kept from
+ * one call to the next, and no call waits, allocates or reads a clock: threads may call at the same time, while nobody
+ * writes what a call reads or writes.
  */
 #ifndef FOLDHARBOR_H
 #define FOLDHARBOR_H
@@ -18,47 +51,42 @@ extern "C" {
 #endif
 
 /*
- * An exercise file: a header, the cards, the runs, and nothing behind them. A run is so many ticks of one record; a
- * tick is 0.1 s. Numbers of 16 bits have their low byte first; speeds are in tenths of km/h. docs/FORMATS.md says the
- * same with examples.
+ * The version of this header: 10,000 times the first number, 100 times the second, and the third. The first grows where a
+ * host has to be compiled anew. Returns the archive's, which has to be the same: an older header's structs may differ.
  */
-enum { /* sizes in bytes, and limits */
-    FOLDHARBOR_HEADER_BYTES = 10,
-    FOLDHARBOR_CARD_BYTES = 20,
-    FOLDHARBOR_RECORD_BYTES = 8,
-    FOLDHARBOR_RUN_BYTES = 2 + FOLDHARBOR_RECORD_BYTES,
-    FOLDHARBOR_ANSWER_BYTES = 8, /* written for each tick */
-    FOLDHARBOR_MOST_CARDS = 8,   /* and at least one */
-    FOLDHARBOR_MOST_RUNS = 6000,
-    FOLDHARBOR_MOST_TICKS = 7200, /* of all runs together: 12 minutes */
-    /* length of the longest file */
-    FOLDHARBOR_MOST_BYTES = FOLDHARBOR_HEADER_BYTES + FOLDHARBOR_MOST_CARDS * FOLDHARBOR_CARD_BYTES +
-                            FOLDHARBOR_MOST_RUNS * FOLDHARBOR_RUN_BYTES
+#define FOLDHARBOR_VERSION 10000
+uint32_t foldharbor_version(void);
+
+/*
+ * Refusals. Each call lists those that it gives in the order in which they are looked for, and gives the first that applies.
+ * 0 is none.
+ */
+enum {
+    FOLDHARBOR_BAD_SPEED = 1,     /* of a sample: not a number, infinite, below 0, or above 250.0 km/h when rounded */
+    FOLDHARBOR_BAD_PRESSURE = 2,  /* of a sample: not a number, or not from 0 to 10 bar */
+    FOLDHARBOR_BAD_FIELD = 3,     /* another field of a sample is out of range */
+    FOLDHARBOR_BAD_CARD = 4,      /* a card's number is out of range; in a file any card's, asked for or not */
+    FOLDHARBOR_BAD_DESK = 5,      /* a field of the desk or of its card is out of range */
+    FOLDHARBOR_SHORT_JOURNAL = 6, /* the journal is shorter than 8 bytes for each tick of the desk */
+    FOLDHARBOR_FULL_JOURNAL = 7,  /* it has no place for one more record, or the desk has 7,200 ticks */
+    FOLDHARBOR_BACK_TOO_FAR = 8,  /* more ticks to strike than the desk has */
+    FOLDHARBOR_BAD_RECORD = 9,    /* a record is out of range: one that a step back leaves, or a run's in a file */
+    FOLDHARBOR_BAD_FILE = 10,     /* shorter than a header, a count out of range, or an offset, the total or the real
+                                     length is not what the counts give */
+    FOLDHARBOR_BAD_TICKS = 11,    /* a run of 0 ticks, or one that takes the sum of ticks over 7,200 */
+    FOLDHARBOR_SHORT_BUFFER = 12, /* the answer buffer has fewer than 8 bytes for each tick */
+    FOLDHARBOR_NO_SUCH_CARD = 13, /* the file has no card of the asked number: 0, or above its count */
+    FOLDHARBOR_BAD_TABLE = 15,    /* anything in the chosen table of texts is not as it should be, in whatever message */
+    FOLDHARBOR_NO_SUCH_MESSAGE = 16, /* the message's number is not below the chosen table's count */
+    FOLDHARBOR_NO_SUCH_LANGUAGE = 17 /* the language is neither 1 nor 2 */
 };
 
-enum { /* places in the header, 16 bits each */
-    FOLDHARBOR_FILE_CARDS = 0,        /* count */
-    FOLDHARBOR_FILE_RUNS = 2,         /* count */
-    FOLDHARBOR_FILE_CARDS_OFFSET = 4, /* where the cards begin: behind the header */
-    FOLDHARBOR_FILE_RUNS_OFFSET = 6,  /* where the runs begin: behind the cards */
-    FOLDHARBOR_FILE_LENGTH = 8        /* of the whole file */
-};
-
-enum { /* places in a card, 16 bits each */
-    FOLDHARBOR_CARD_DESIGN = 0,        /* design speed: from 1 to FOLDHARBOR_MOST_SPEED, as the next four */
-    FOLDHARBOR_CARD_SET = 2,           /* set speed */
-    FOLDHARBOR_CARD_HIGHEST = 4,       /* highest speed */
-    FOLDHARBOR_CARD_POS = 6,           /* ceiling of mode POS */
-    FOLDHARBOR_CARD_ZAV = 8,           /* ceiling of mode ZAV */
-    FOLDHARBOR_CARD_TOLERANCE = 10,    /* over the permitted speed before NZ2 */
-    FOLDHARBOR_CARD_STOP = 12,         /* target of code Stop */
-    FOLDHARBOR_CARD_DECELERATION = 14, /* of a braking curve, in tenths of km/h per second */
-    FOLDHARBOR_CARD_CYCLE = 16,        /* of ordinary vigilance, in ticks */
-    FOLDHARBOR_CARD_WAIT = 18          /* of the movement check, in ticks: short or long, no other */
-};
-
-enum { /* limits of a card's numbers, and of a record's speed; where no least is named it is 0 */
-    FOLDHARBOR_MOST_SPEED = 2500,
+/*
+ * Units: a tick is 0.1 s, and speeds are in tenths of km/h, if nothing else is said.
+ */
+enum { /* limits; where no least is named it is 0 */
+    FOLDHARBOR_MOST_TICKS = 7200, /* of a desk, and of all runs of an exercise: 12 minutes */
+    FOLDHARBOR_MOST_SPEED = 2500, /* of a card and of a record */
     FOLDHARBOR_MOST_TOLERANCE = 100,
     FOLDHARBOR_MOST_STOP = 400,
     FOLDHARBOR_LEAST_DECELERATION = 5,
@@ -69,20 +97,19 @@ enum { /* limits of a card's numbers, and of a record's speed; where no least is
     FOLDHARBOR_LONG_WAIT = 1000
 };
 
-enum { /* places in a run */
-    FOLDHARBOR_RUN_TICKS = 0, /* 16 bits, at least 1 */
-    FOLDHARBOR_RUN_RECORD = 2
-};
-
-enum { /* places in a record */
-    FOLDHARBOR_RECORD_SPEED = 0, /* 16 bits; the others have 8 */
-    FOLDHARBOR_RECORD_CODE = 2,
-    FOLDHARBOR_RECORD_MODE = 3, /* asked for; the desk takes it where the speed is 0 */
-    FOLDHARBOR_RECORD_LEVER = 4,
-    FOLDHARBOR_RECORD_FLAGS = 5,
-    FOLDHARBOR_RECORD_BAND = 6, /* of the pressure in the main line */
-    FOLDHARBOR_RECORD_SENSE = 7 /* of motion */
-};
+/* The card: what the train is, as the school sets it. */
+typedef struct foldharbor_card {
+    uint16_t design;       /* design speed: from 1 to FOLDHARBOR_MOST_SPEED, as the next four */
+    uint16_t set;          /* set speed */
+    uint16_t highest;      /* highest speed */
+    uint16_t pos;          /* ceiling of mode POS */
+    uint16_t zav;          /* ceiling of mode ZAV */
+    uint16_t tolerance;    /* over the permitted speed before NZ2: to FOLDHARBOR_MOST_TOLERANCE */
+    uint16_t stop;         /* target of code Stop: to FOLDHARBOR_MOST_STOP */
+    uint16_t deceleration; /* of a braking curve, in tenths of km/h per second: FOLDHARBOR_LEAST_ to MOST_DECELERATION */
+    uint16_t cycle;        /* of ordinary vigilance, in ticks: FOLDHARBOR_LEAST_CYCLE to FOLDHARBOR_MOST_CYCLE */
+    uint16_t wait;         /* of the movement check, in ticks: FOLDHARBOR_SHORT_WAIT or FOLDHARBOR_LONG_WAIT, no other */
+} foldharbor_card;
 
 enum { /* signal codes */
     FOLDHARBOR_CODE_NONE = 0,
@@ -105,7 +132,7 @@ enum { /* of the lever, and of motion */
     FOLDHARBOR_REVERSE = 2
 };
 
-enum { /* bits of a record's flags; the highest bit is 0 */
+enum { /* bits of the flags of a sample and of a record; the highest bit is 0 */
     FOLDHARBOR_FLAG_VIGILANCE = 1 << 0, /* the first three are buttons: what counts is the tick that presses one */
     FOLDHARBOR_FLAG_PLUS = 1 << 1,
     FOLDHARBOR_FLAG_MAN = 1 << 2,
@@ -115,40 +142,18 @@ enum { /* bits of a record's flags; the highest bit is 0 */
     FOLDHARBOR_FLAG_CAB_ON = 1 << 6
 };
 
-enum { /* bands of the pressure, in bar */
-    FOLDHARBOR_BAND_BELOW_3_5 = 0,
-    FOLDHARBOR_BAND_BELOW_4_5 = 1, /* and from 3.5 */
-    FOLDHARBOR_BAND_FROM_4_5 = 2   /* brakes released */
-};
+/* A sample: the cab's readings at a tick. */
+typedef struct foldharbor_sample {
+    float speed;    /* in m/s; rounded to tenths of km/h exactly, halves up */
+    float pressure; /* in the main line, in bar */
+    uint8_t code;   /* signal code */
+    uint8_t mode;   /* asked for; the desk takes it where the speed is 0 */
+    uint8_t lever;  /* its direction */
+    uint8_t flags;
+    uint8_t sense; /* direction of motion */
+} foldharbor_sample;
 
-/*
- * What foldharbor_run_exercise returns when it refuses: 10,000 and the number of the refusal.
- * They are listed in the order in which they are looked for; the first that applies is returned.
- * The two about a run are looked for in one run after the other, so an earlier run comes first.
- */
-enum {
-    FOLDHARBOR_BAD_LAYOUT = 10010, /* shorter than a header, a count out of range, or an offset, the total or the
-                                      real length is not what the counts give */
-    FOLDHARBOR_BAD_CARD = 10004,   /* any card of the file, asked for or not, has a number out of its range */
-    FOLDHARBOR_NO_CARD = 10013,    /* the file has no card of the asked number: 0, or above its count */
-    FOLDHARBOR_BAD_TICKS = 10011,  /* a run of 0 ticks, or one that takes the sum of ticks over the most */
-    FOLDHARBOR_BAD_RECORD = 10009, /* a run's record has a field out of its range */
-    FOLDHARBOR_NO_ROOM = 10012,    /* the answer buffer has fewer than 8 bytes for each tick */
-    FOLDHARBOR_REFUSED = 10000     /* a returned number above this one is a refusal, any other a count of ticks */
-};
-
-/*
- * An answer: what the desk shows after a tick. The valve is open exactly when the byte of the causes is not 0.
- */
-enum { /* places in an answer; the first two have 16 bits, the others 8 */
-    FOLDHARBOR_ANSWER_PERMITTED = 0, /* permitted speed P */
-    FOLDHARBOR_ANSWER_TARGET = 2,    /* target speed T of the signal code, with the raises by PLUS; 0 outside mode PRE */
-    FOLDHARBOR_ANSWER_MARKS = 4,
-    FOLDHARBOR_ANSWER_CAUSES = 5, /* that are held */
-    FOLDHARBOR_ANSWER_LOWEST = 6, /* number of the lowest held cause, 1 to 5; 0 if none is held */
-    FOLDHARBOR_ANSWER_HELD = 7    /* how many causes are held, 0 to 5 */
-};
-enum { /* bits of the marks */
+enum { /* bits of an answer's marks */
     FOLDHARBOR_MAN = 1 << 0,             /* MAN is on */
     FOLDHARBOR_CURVE = 1 << 1,           /* a braking curve is running */
     FOLDHARBOR_CYCLIC_PROMPT = 1 << 2,   /* cyclic vigilance asks for the button */
@@ -156,7 +161,8 @@ enum { /* bits of the marks */
     FOLDHARBOR_ONE_TIME_KIND = 1 << 4,   /* kind of that prompt: 0 at a curve's start, 1 when nearing the curve */
     FOLDHARBOR_ZS20 = 1 << 5             /* warning tone ZS20 sounds */
 };
-enum { /* bits of the causes */
+
+enum { /* bits of the causes: each opens the emergency brake valve for as long as it is held */
     FOLDHARBOR_NZ1 = 1 << 0, /* vigilance not confirmed in time */
     FOLDHARBOR_NZ2 = 1 << 1, /* faster than the permitted speed and the tolerance */
     FOLDHARBOR_NZ3 = 1 << 2, /* moved 10 m against the lever, or without cab on */
@@ -164,18 +170,227 @@ enum { /* bits of the causes */
     FOLDHARBOR_NZ5 = 1 << 4  /* stood too long with the brakes released */
 };
 
+/* An answer: what the desk shows after a tick. */
+typedef struct foldharbor_answer {
+    uint16_t permitted; /* permitted speed P */
+    uint16_t target;    /* target speed T of the signal code, with the raises by PLUS; 0 outside mode PRE */
+    uint8_t marks;
+    uint8_t causes; /* that are held: the valve is open exactly when this is not 0 */
+    uint8_t lowest; /* number of the lowest held cause, 1 to 5; 0 if none is held */
+    uint8_t held;   /* how many causes are held, 0 to 5 */
+} foldharbor_answer;
+
+/*
+ * The desk: all that is kept between ticks. A host keeps it, copies it, puts it back, and hands it to the next call. It may
+ * read the fields; what it writes there is judged by the next call (FOLDHARBOR_BAD_DESK). In parentheses the range.
+ */
+typedef struct foldharbor_codes {
+    uint8_t last;        /* code of the last tick in PRE (0 to 4) */
+    uint8_t interrupted; /* code before a gap without code (0 to 4) */
+    uint8_t gap;         /* its length in ticks (0 to 51) */
+    uint8_t raise;       /* presses of PLUS that count under code "40 and warning" (0 to 4) */
+} foldharbor_codes;
+
+typedef struct foldharbor_curve {
+    uint16_t start;   /* speed that the braking curve starts from; 0: no curve (0 to 2500) */
+    uint16_t age;     /* in ticks (0 to 5000) */
+    uint8_t prompted; /* whether its prompt of kind 1 was given (0 to 1) */
+} foldharbor_curve;
+
+typedef struct foldharbor_signal {
+    foldharbor_codes codes;
+    foldharbor_curve curve;
+    uint16_t man; /* speed under MAN; 0: MAN is off (0 to 2500) */
+} foldharbor_signal;
+
+typedef struct foldharbor_prompt { /* of one-time vigilance */
+    uint8_t ticks;                 /* 1 in the tick in which it comes; 0: no prompt (0 to 35) */
+    uint8_t kind;                  /* (0 to 1) */
+} foldharbor_prompt;
+
+typedef struct foldharbor_cyclic { /* cyclic vigilance */
+    uint8_t kind;                  /* 0 none, 1 ordinary, 2 increased */
+    uint16_t ticks;                /* since it was confirmed (0 to 599) */
+} foldharbor_cyclic;
+
+typedef struct foldharbor_state {
+    uint8_t mode;    /* (1 to 4) */
+    uint8_t buttons; /* of the last tick: the lowest three flags (0 to 7) */
+    foldharbor_signal signal;
+    foldharbor_prompt prompt;
+    foldharbor_cyclic cyclic;
+    uint16_t wrongway; /* distance moved against the lever, in units of 1/360 m (0 to 3600) */
+    uint16_t standing; /* ticks that the train has stood with the brakes released (0 to 1000) */
+    uint8_t causes;    /* that are held: the valve is open exactly when this is not 0 (0 to 31) */
+} foldharbor_state;
+
+typedef struct foldharbor_desk {
+    foldharbor_card card;
+    uint16_t n; /* ticks, which is how many records its journal holds (0 to 7200) */
+    foldharbor_state state;
+} foldharbor_desk;
+
+/*
+ * What a call on a desk returns. A refusal gives back the very desk that was handed in and an answer of zeros: so a host may
+ * always go on with the desk, and sets the valve by desk.state.causes, which a refused reading leaves as it was.
+ */
+typedef struct foldharbor_outcome {
+    foldharbor_desk desk;
+    foldharbor_answer answer;
+    uint8_t refusal; /* 0 if accepted */
+} foldharbor_outcome;
+
+/*
+ * Opens a desk: the fresh desk of the card, in mode POS with nothing held, and an answer of zeros.
+ * Refusal: FOLDHARBOR_BAD_CARD; then the desk is of zeros, card and mode too, which every other call refuses.
+ */
+foldharbor_outcome foldharbor_open(foldharbor_card card);
+
+/*
+ * The journal is a buffer of the host's in which each tick leaves its record, 8 bytes: tick i, counted from 0, at bytes 8i to
+ * 8i + 7. Hand the same buffer to every call on a desk, and leave its bytes alone: a step back rebuilds the desk from them.
+ * What it holds before the first tick does not matter.
+ */
+enum {
+    FOLDHARBOR_RECORD_BYTES = 8,
+    FOLDHARBOR_JOURNAL_BYTES = FOLDHARBOR_RECORD_BYTES * FOLDHARBOR_MOST_TICKS /* enough for any drive; fewer end it earlier */
+};
+
+/*
+ * Plays one tick: the desk a tick later, with what it shows. Writes the record to bytes 8n to 8n + 7 of the journal, and no
+ * other byte. Refusals: FOLDHARBOR_BAD_DESK, SHORT_JOURNAL, FULL_JOURNAL, BAD_SPEED, BAD_PRESSURE, BAD_FIELD; then no byte
+ * of the journal changes.
+ */
+foldharbor_outcome foldharbor_tick(foldharbor_desk desk, foldharbor_sample sample, uint8_t *journal,
+                                   size_t journal_length);
+
+/*
+ * Strikes the last k ticks: the desk and the answer as they were after the tick before them, rebuilt from the journal; an
+ * answer of zeros where no tick is left. 10 ticks are a second, k may be 0. Writes nothing: the next ticks are recorded over
+ * the struck ones. Refusals: FOLDHARBOR_BAD_DESK, SHORT_JOURNAL, BACK_TOO_FAR, BAD_RECORD.
+ *
+ * It looks at the desk's card and n only, if the desk is in range. So a drive is kept in a file as its card
+ * (foldharbor_put_card), n, and the first 8n bytes of its journal, and taken up again by opening a desk of the card, setting
+ * its n, and a step back by 0.
+ */
+foldharbor_outcome foldharbor_step_back(foldharbor_desk desk, uint32_t k, const uint8_t *journal, size_t journal_length);
+
+/*
+ * Strikes all ticks: the fresh desk of the same card, and an answer of zeros. Refusal: FOLDHARBOR_BAD_DESK.
+ */
+foldharbor_outcome foldharbor_restart(foldharbor_desk desk);
+
+/*
+ * Bytes. Numbers of 16 bits have their low byte first. docs/FORMATS.md has every format with examples.
+ */
+enum { /* sizes */
+    FOLDHARBOR_CARD_BYTES = 20,
+    FOLDHARBOR_ANSWER_BYTES = 8
+};
+
+enum { /* places in a card, 16 bits each, in the order of the struct's fields */
+    FOLDHARBOR_CARD_DESIGN = 0,
+    FOLDHARBOR_CARD_SET = 2,
+    FOLDHARBOR_CARD_HIGHEST = 4,
+    FOLDHARBOR_CARD_POS = 6,
+    FOLDHARBOR_CARD_ZAV = 8,
+    FOLDHARBOR_CARD_TOLERANCE = 10,
+    FOLDHARBOR_CARD_STOP = 12,
+    FOLDHARBOR_CARD_DECELERATION = 14,
+    FOLDHARBOR_CARD_CYCLE = 16,
+    FOLDHARBOR_CARD_WAIT = 18
+};
+
+enum { /* places in an answer, likewise; the first two have 16 bits, the others 8 */
+    FOLDHARBOR_ANSWER_PERMITTED = 0,
+    FOLDHARBOR_ANSWER_TARGET = 2,
+    FOLDHARBOR_ANSWER_MARKS = 4,
+    FOLDHARBOR_ANSWER_CAUSES = 5,
+    FOLDHARBOR_ANSWER_LOWEST = 6,
+    FOLDHARBOR_ANSWER_HELD = 7
+};
+
+enum { /* places in a record */
+    FOLDHARBOR_RECORD_SPEED = 0, /* 16 bits; the others have 8 */
+    FOLDHARBOR_RECORD_CODE = 2,
+    FOLDHARBOR_RECORD_MODE = 3, /* asked for */
+    FOLDHARBOR_RECORD_LEVER = 4,
+    FOLDHARBOR_RECORD_FLAGS = 5,
+    FOLDHARBOR_RECORD_BAND = 6, /* of the pressure */
+    FOLDHARBOR_RECORD_SENSE = 7 /* of motion */
+};
+
+enum { /* bands of the pressure, in bar */
+    FOLDHARBOR_BAND_BELOW_3_5 = 0,
+    FOLDHARBOR_BAND_BELOW_4_5 = 1, /* and from 3.5 */
+    FOLDHARBOR_BAND_FROM_4_5 = 2   /* brakes released */
+};
+
+/* The card in the first 20 bytes, in range or not; of fewer bytes a card of zeros, which no desk opens with. */
+foldharbor_card foldharbor_card_at(const uint8_t *bytes, size_t length);
+
+/* Writes the card to the first 20 bytes and returns 20; where there are fewer, writes nothing and returns 0. */
+size_t foldharbor_put_card(foldharbor_card card, uint8_t *bytes, size_t length);
+
+/* The answer in the first 8 bytes, such as an answer of foldharbor_run_exercise; of fewer bytes an answer of zeros. */
+foldharbor_answer foldharbor_answer_at(const uint8_t *bytes, size_t length);
+
+/* Writes the answer to the first 8 bytes and returns 8; where there are fewer, writes nothing and returns 0. */
+size_t foldharbor_put_answer(foldharbor_answer answer, uint8_t *bytes, size_t length);
+
+/*
+ * An exercise file: a header, the cards, the runs, and nothing behind them. A run is so many ticks of one record.
+ */
+enum { /* sizes in bytes, and limits */
+    FOLDHARBOR_HEADER_BYTES = 10,
+    FOLDHARBOR_RUN_BYTES = 2 + FOLDHARBOR_RECORD_BYTES,
+    FOLDHARBOR_MOST_CARDS = 8, /* and at least one */
+    FOLDHARBOR_MOST_RUNS = 6000,
+    /* length of the longest file */
+    FOLDHARBOR_MOST_BYTES = FOLDHARBOR_HEADER_BYTES + FOLDHARBOR_MOST_CARDS * FOLDHARBOR_CARD_BYTES +
+                            FOLDHARBOR_MOST_RUNS * FOLDHARBOR_RUN_BYTES
+};
+
+enum { /* places in the header, 16 bits each */
+    FOLDHARBOR_FILE_CARDS = 0,        /* count */
+    FOLDHARBOR_FILE_RUNS = 2,         /* count */
+    FOLDHARBOR_FILE_CARDS_OFFSET = 4, /* where the cards begin: behind the header */
+    FOLDHARBOR_FILE_RUNS_OFFSET = 6,  /* where the runs begin: behind the cards */
+    FOLDHARBOR_FILE_LENGTH = 8        /* of the whole file */
+};
+
+enum { /* places in a run */
+    FOLDHARBOR_RUN_TICKS = 0, /* 16 bits, at least 1 */
+    FOLDHARBOR_RUN_RECORD = 2
+};
+
+/* What an exercise file holds; zeros if it is refused. */
+typedef struct foldharbor_counts {
+    uint8_t refusal; /* 0 if accepted */
+    uint16_t cards;
+    uint16_t runs;
+    uint16_t ticks; /* of all runs: foldharbor_run_exercise wants FOLDHARBOR_ANSWER_BYTES for each */
+} foldharbor_counts;
+
+/*
+ * Reads an exercise file. Refusals: FOLDHARBOR_BAD_FILE, BAD_CARD; then, in one run after the other, so that an earlier run
+ * comes first, BAD_TICKS, BAD_RECORD.
+ */
+foldharbor_counts foldharbor_read_exercise(const uint8_t *exercise, size_t exercise_length);
+
 /*
  * Runs the exercise from a fresh desk of the asked card.
  *
- *   exercise, exercise_length   the bytes of the exercise file, read and never changed
- *   card                        which of its cards, counted from 1; any number may be handed over
- *   answers, answers_length     where the answers go, 8 bytes for each tick, the first tick first
+ *   card      which of its cards, counted from 1
+ *   answers   where the answers go, 8 bytes for each tick, the first tick first
  *
- * Returns the count of ticks, 0 to 7,200. Bytes of the buffer behind the last answer keep their values.
- * A refusal returns one of the numbers above and leaves the whole buffer as it was.
- *
- * Both pointers are valid for their lengths, not null even if the length is 0, and the two areas do not overlap.
+ * Returns the count of ticks, 0 to 7,200; bytes of the buffer behind the last answer keep their values. A refusal returns
+ * FOLDHARBOR_REFUSED plus its number, and changes no byte of the buffer: FOLDHARBOR_BAD_FILE, BAD_CARD, NO_SUCH_CARD; then,
+ * in one run after the other, BAD_TICKS, BAD_RECORD; then SHORT_BUFFER.
  */
+enum {
+    FOLDHARBOR_REFUSED = 10000 /* what is returned above this is a refusal, any other number a count of ticks */
+};
 uint32_t foldharbor_run_exercise(const uint8_t *exercise, size_t exercise_length, uint32_t card, uint8_t *answers,
                                  size_t answers_length);
 
@@ -195,19 +410,9 @@ enum {
     FOLDHARBOR_MOST_MESSAGES = 64 /* in a table */
 };
 
-/*
- * Why foldharbor_text refuses: the number of the refusal, here without the 10,000.
- * They are listed in the order in which they are looked for; the first that applies is given.
- */
-enum {
-    FOLDHARBOR_NO_LANGUAGE = 17, /* the language is neither 1 nor 2 */
-    FOLDHARBOR_BAD_TABLE = 15,   /* anything in the chosen table is not as said above, in whatever message */
-    FOLDHARBOR_NO_MESSAGE = 16   /* the message's number is not below the chosen table's count */
-};
-
 /* Where a text is in its table: from start up to end, which is the place behind its last byte. */
 typedef struct foldharbor_place {
-    uint8_t refusal; /* 0 if accepted; else one of the numbers above, and start and end are 0 */
+    uint8_t refusal; /* 0 if accepted; else start and end are 0 */
     uint16_t start;
     uint16_t end;
 } foldharbor_place;
@@ -215,10 +420,9 @@ typedef struct foldharbor_place {
 /*
  * Finds the text of a message. It is a part of the chosen table and no copy.
  *
- *   first, first_length     the table of language 1
- *   second, second_length   the table of language 2
- *   language                which of them is the chosen one, 1 or 2; any number may be handed over
- *   message                 which message, counted from 0; any number may be handed over
+ *   first, second   the tables of language 1 and of language 2
+ *   language        which of them is the chosen one, 1 or 2
+ *   message         which message, counted from 0
  *
  * Returns the text's place in the chosen table, which is judged as a whole in each call. The other table has no
  * influence and may be bad. Neither is ever changed. With table for the chosen one, the text is printed by
@@ -226,9 +430,7 @@ typedef struct foldharbor_place {
  *   printf("%.*s", place.end - place.start, (const char *)table + place.start);
  *
  * A refusal's place is empty, so that this prints nothing. UTF-8 allows a zero byte in a message; printf stops there.
- *
- * Both pointers are valid for their lengths, whatever the language, and not null even if the length is 0. The two
- * tables may be the same or overlap.
+ * The two tables may be the same or overlap. Refusals: FOLDHARBOR_NO_SUCH_LANGUAGE, BAD_TABLE, NO_SUCH_MESSAGE.
  */
 foldharbor_place foldharbor_text(const uint8_t *first, size_t first_length, const uint8_t *second, size_t second_length,
                                  uint32_t language, uint32_t message);
@@ -240,7 +442,7 @@ enum {
     FOLDHARBOR_TEXT_ONE_TIME_PROMPT = 11, /* + kind of that prompt, 0 or 1: bit 4 of the marks where bit 3 is set */
     FOLDHARBOR_TEXT_CODE = 14,            /* + signal code, 0 to 4: none, Stop, Warning, 40 and warning, Clear */
     FOLDHARBOR_TEXT_MODE = 18,            /* + mode, 1 to 4: POS, PRE, VYL, ZAV */
-    FOLDHARBOR_TEXT_REFUSAL = 22,         /* + number of the refusal, 1 to 17, without the 10,000 */
+    FOLDHARBOR_TEXT_REFUSAL = 22,         /* + number of the refusal, 1 to 17 */
     FOLDHARBOR_TEXTS = 40                 /* how many there are */
 };
 

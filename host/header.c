@@ -163,6 +163,11 @@ static size_t write_exercise(uint32_t cards, uint32_t runs)
     return length;
 }
 
+static uint32_t refused(uint32_t number)
+{
+    return FOLDHARBOR_REFUSED + number;
+}
+
 static void expect(size_t length, uint32_t card, size_t room, uint32_t wanted, const char *what)
 {
     uint32_t returned = foldharbor_run_exercise(exercise, length, card, answers, room);
@@ -204,10 +209,10 @@ static void try_fields(void)
     size_t record = runs_offset(1) + FOLDHARBOR_RUN_RECORD;
 
     for (size_t i = 0; i < sizeof card_bounds / sizeof card_bounds[0]; i++)
-        try_bounds(&card_bounds[i], FOLDHARBOR_HEADER_BYTES, true, FOLDHARBOR_BAD_CARD);
-    try_bounds(&speed, record, true, FOLDHARBOR_BAD_RECORD);
+        try_bounds(&card_bounds[i], FOLDHARBOR_HEADER_BYTES, true, refused(FOLDHARBOR_BAD_CARD));
+    try_bounds(&speed, record, true, refused(FOLDHARBOR_BAD_RECORD));
     for (size_t i = 0; i < sizeof record_bounds / sizeof record_bounds[0]; i++)
-        try_bounds(&record_bounds[i], record, false, FOLDHARBOR_BAD_RECORD);
+        try_bounds(&record_bounds[i], record, false, refused(FOLDHARBOR_BAD_RECORD));
 }
 
 static void try_counts(void)
@@ -215,20 +220,20 @@ static void try_counts(void)
     size_t ticks = runs_offset(1) + FOLDHARBOR_RUN_TICKS;
 
     expect_with(ticks, true, FOLDHARBOR_MOST_TICKS, FOLDHARBOR_MOST_TICKS, "most ticks");
-    expect_with(ticks, true, FOLDHARBOR_MOST_TICKS + 1, FOLDHARBOR_BAD_TICKS, "a tick too many");
-    expect_with(ticks, true, 0, FOLDHARBOR_BAD_TICKS, "a run of no ticks");
+    expect_with(ticks, true, FOLDHARBOR_MOST_TICKS + 1, refused(FOLDHARBOR_BAD_TICKS), "a tick too many");
+    expect_with(ticks, true, 0, refused(FOLDHARBOR_BAD_TICKS), "a run of no ticks");
     for (size_t i = 0; i < FOLDHARBOR_HEADER_BYTES; i++)
-        expect(i, 1, MOST_ANSWERS, FOLDHARBOR_BAD_LAYOUT, "shorter than a header");
+        expect(i, 1, MOST_ANSWERS, refused(FOLDHARBOR_BAD_FILE), "shorter than a header");
 
     size_t length = write_exercise(FOLDHARBOR_MOST_CARDS, 1);
     expect(length, FOLDHARBOR_MOST_CARDS, MOST_ANSWERS, tour[0].ticks, "most cards");
-    expect(length, FOLDHARBOR_MOST_CARDS + 1, MOST_ANSWERS, FOLDHARBOR_NO_CARD, "no such card");
+    expect(length, FOLDHARBOR_MOST_CARDS + 1, MOST_ANSWERS, refused(FOLDHARBOR_NO_SUCH_CARD), "no such card");
     expect(length, 1, FOLDHARBOR_ANSWER_BYTES * tour[0].ticks, tour[0].ticks, "an exact buffer");
-    expect(length, 1, FOLDHARBOR_ANSWER_BYTES * tour[0].ticks - 1, FOLDHARBOR_NO_ROOM, "a byte too few");
+    expect(length, 1, FOLDHARBOR_ANSWER_BYTES * tour[0].ticks - 1, refused(FOLDHARBOR_SHORT_BUFFER), "a byte too few");
     length = write_exercise(FOLDHARBOR_MOST_CARDS + 1, 1);
-    expect(length, 1, MOST_ANSWERS, FOLDHARBOR_BAD_LAYOUT, "a card too many");
+    expect(length, 1, MOST_ANSWERS, refused(FOLDHARBOR_BAD_FILE), "a card too many");
     length = write_exercise(0, 1);
-    expect(length, 1, MOST_ANSWERS, FOLDHARBOR_BAD_LAYOUT, "no card");
+    expect(length, 1, MOST_ANSWERS, refused(FOLDHARBOR_BAD_FILE), "no card");
 }
 
 /* The longest file, each of its runs with one tick, and one of a run more. */
@@ -243,7 +248,7 @@ static void try_runs(void)
         if (runs == FOLDHARBOR_MOST_RUNS)
             expect(FOLDHARBOR_MOST_BYTES, 1, MOST_ANSWERS, runs, "most runs");
         else
-            expect(length, 1, MOST_ANSWERS, FOLDHARBOR_BAD_LAYOUT, "a run too many");
+            expect(length, 1, MOST_ANSWERS, refused(FOLDHARBOR_BAD_FILE), "a run too many");
     }
 }
 

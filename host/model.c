@@ -1,7 +1,8 @@
-/* The rules of the desk and of the exercise file in plain C. See model.h. */
+/* The rules of the desk, of its calls and of the exercise file in plain C. See model.h. */
 #include "model.h"
 
 #include <stdbool.h>
+#include <string.h>
 
 #include "bytes.h"
 #include "foldharbor.h"
@@ -395,16 +396,9 @@ void model_tick(const struct card *card, struct state *state, const struct recor
     write_answer(&tick, state, answer);
 }
 
-/* The exercise file. */
+/* Cards and records: their bytes and their ranges. */
 
-enum {
-    REFUSED_CARD = FOLDHARBOR_BAD_CARD - FOLDHARBOR_REFUSED,
-    REFUSED_RECORD = FOLDHARBOR_BAD_RECORD - FOLDHARBOR_REFUSED,
-    REFUSED_LAYOUT = FOLDHARBOR_BAD_LAYOUT - FOLDHARBOR_REFUSED,
-    REFUSED_TICKS = FOLDHARBOR_BAD_TICKS - FOLDHARBOR_REFUSED
-};
-
-static struct card read_card(const uint8_t *place)
+struct card model_read_card(const uint8_t *place)
 {
     return (struct card){
         .design = read_half(place),
@@ -420,6 +414,20 @@ static struct card read_card(const uint8_t *place)
     };
 }
 
+void model_write_card(uint8_t *place, const struct card *card)
+{
+    write_half(place, card->design);
+    write_half(place + 2, card->set);
+    write_half(place + 4, card->highest);
+    write_half(place + 6, card->pos_ceiling);
+    write_half(place + 8, card->zav_ceiling);
+    write_half(place + 10, card->tolerance);
+    write_half(place + 12, card->stop_target);
+    write_half(place + 14, card->deceleration);
+    write_half(place + 16, card->cycle);
+    write_half(place + 18, card->wait);
+}
+
 static struct record read_record(const uint8_t *place)
 {
     return (struct record){
@@ -431,6 +439,17 @@ static struct record read_record(const uint8_t *place)
         .band = place[6],
         .sense = place[7],
     };
+}
+
+void model_write_record(uint8_t *place, const struct record *record)
+{
+    write_half(place, record->speed);
+    place[2] = record->code;
+    place[3] = record->mode;
+    place[4] = record->lever;
+    place[5] = record->flags;
+    place[6] = record->band;
+    place[7] = record->sense;
 }
 
 static bool within(uint32_t least, uint32_t value, uint32_t most)
@@ -453,6 +472,176 @@ static bool record_in_range(const struct record *record)
            record->lever <= 2 && record->flags <= 127 && record->band <= 2 && record->sense <= 2;
 }
 
+/* Readings. A float is taken by its bits: from 0 on, floats are in the order of their bits as whole numbers. */
+
+enum {
+    FRACTION_BITS = 23,
+    LEAST_EXPONENT = 1,      /* a float with exponent 0 is worth as much, without the leading one */
+    EXPONENT_OF_WHOLES = 150 /* with it a float is its significand, a whole number */
+};
+
+static const uint32_t minus_zero = 0x80000000;
+static const uint32_t speed_128 = 0x43000000;    /* 128 m/s, too fast; infinity, NaN and minus signs have larger bits */
+static const uint32_t pressure_3_5 = 0x40600000; /* 1.75 * 2 bar */
+static const uint32_t pressure_4_5 = 0x40900000; /* 1.125 * 4 bar */
+static const uint32_t pressure_10 = 0x41200000;  /* 1.25 * 8 bar */
+
+static uint32_t bits_of(float reading)
+{
+    uint32_t bits;
+
+    memcpy(&bits, &reading, sizeof bits);
+    return bits == minus_zero ? 0 : bits;
+}
+
+static bool read_speed(float reading, uint32_t *speed)
+{
+    uint32_t bits = bits_of(reading);
+
+    if (bits >= speed_128)
+        return false;
+
+    uint64_t significand = bits & ((1u << FRACTION_BITS) - 1);
+    uint32_t exponent = bits >> FRACTION_BITS;
+
+    if (exponent == 0)
+        exponent = LEAST_EXPONENT;
+    else
+        significand |= 1u << FRACTION_BITS;
+
+    uint32_t halvings = EXPONENT_OF_WHOLES - exponent; /* at least 17 of them make the reading of the significand */
+
+    /* The floor of 36x + 1/2. 72 times a significand is below 2^31, so after 31 halvings 36x is below 1/2. */
+    *speed = halvings < 31 ? (72 * significand + (1u << halvings)) >> (halvings + 1) : 0;
+    return *speed <= MOST_SPEED;
+}
+
+static bool read_band(float reading, uint32_t *band)
+{
+    uint32_t bits = bits_of(reading);
+
+    *band = (bits >= pressure_3_5) + (bits >= pressure_4_5);
+    return bits <= pressure_10;
+}
+
+/* Gives the number of the refusal, 0 if accepted, and the record. */
+static uint32_t read_sample(const struct sample *sample, struct record *record)
+{
+    *record = (struct record){
+        .code = sample->code,
+        .mode = sample->mode,
+        .lever = sample->lever,
+        .flags = sample->flags,
+        .sense = sample->sense,
+    };
+    if (!read_speed(sample->speed, &record->speed))
+        return FOLDHARBOR_BAD_SPEED;
+    if (!read_band(sample->pressure, &record->band))
+        return FOLDHARBOR_BAD_PRESSURE;
+    return record_in_range(record) ? 0 : FOLDHARBOR_BAD_FIELD;
+}
+
+/* The calls on a desk. */
+
+static bool signal_in_range(const struct signal *signal)
+{
+    return signal->last_code <= CODE_CLEAR && signal->gap_code <= CODE_CLEAR && signal->gap <= LONG_GAP + 1 &&
+           signal->raise <= MOST_RAISE && signal->curve_start <= MOST_SPEED && signal->curve_age <= MOST_AGE &&
+           signal->man_speed <= MOST_SPEED && signal->lead_given <= 1 && signal->prompt <= PROMPT_TICKS &&
+           signal->prompt_kind <= 1;
+}
+
+static bool state_in_range(const struct state *state)
+{
+    return within(MODE_POS, state->mode, MODE_ZAV) && state->buttons <= FLAGS_BUTTONS &&
+           signal_in_range(&state->signal) && state->vigilance_kind <= VIGILANCE_INCREASED &&
+           state->vigilance_ticks <= MOST_VIGILANCE_TICKS && state->wrong_way <= MOST_WRONG_WAY &&
+           state->standing <= MOST_STANDING && state->causes <= MOST_CAUSES;
+}
+
+static bool desk_in_range(const struct desk *desk)
+{
+    return card_in_range(&desk->card) && desk->ticks <= FOLDHARBOR_MOST_TICKS && state_in_range(&desk->state);
+}
+
+static struct desk fresh_desk(struct card card)
+{
+    return (struct desk){.card = card, .state = model_fresh_state()};
+}
+
+static struct outcome refused(struct desk desk, uint32_t refusal)
+{
+    return (struct outcome){.desk = desk, .refusal = refusal};
+}
+
+static size_t capacity(size_t journal_length)
+{
+    size_t places = journal_length / RECORD_BYTES;
+
+    return places < FOLDHARBOR_MOST_TICKS ? places : FOLDHARBOR_MOST_TICKS;
+}
+
+/* What a tick and a step back refuse first. */
+static uint32_t judge_desk(const struct desk *desk, size_t journal_length)
+{
+    if (!desk_in_range(desk))
+        return FOLDHARBOR_BAD_DESK;
+    return journal_length < RECORD_BYTES * desk->ticks ? FOLDHARBOR_SHORT_JOURNAL : 0;
+}
+
+struct outcome model_desk_open(struct card card)
+{
+    if (!card_in_range(&card))
+        return refused((struct desk){0}, FOLDHARBOR_BAD_CARD);
+    return (struct outcome){.desk = fresh_desk(card)};
+}
+
+struct outcome model_desk_tick(struct desk desk, struct sample sample, uint8_t *journal, size_t journal_length)
+{
+    struct outcome outcome = {.desk = desk};
+    struct record record;
+    uint32_t refusal = judge_desk(&desk, journal_length);
+
+    if (refusal == 0 && desk.ticks >= capacity(journal_length))
+        refusal = FOLDHARBOR_FULL_JOURNAL;
+    if (refusal == 0)
+        refusal = read_sample(&sample, &record);
+    if (refusal != 0)
+        return refused(desk, refusal);
+    model_tick(&outcome.desk.card, &outcome.desk.state, &record, outcome.answer);
+    model_write_record(journal + RECORD_BYTES * desk.ticks, &record);
+    outcome.desk.ticks++;
+    return outcome;
+}
+
+struct outcome model_desk_step_back(struct desk desk, uint32_t count, const uint8_t *journal, size_t journal_length)
+{
+    struct outcome outcome = {.desk = fresh_desk(desk.card)};
+    uint32_t refusal = judge_desk(&desk, journal_length);
+
+    if (refusal == 0 && count > desk.ticks)
+        refusal = FOLDHARBOR_BACK_TOO_FAR;
+    if (refusal != 0)
+        return refused(desk, refusal);
+    for (; outcome.desk.ticks < desk.ticks - count; outcome.desk.ticks++, journal += RECORD_BYTES) {
+        struct record record = read_record(journal);
+
+        if (!record_in_range(&record))
+            return refused(desk, FOLDHARBOR_BAD_RECORD);
+        model_tick(&outcome.desk.card, &outcome.desk.state, &record, outcome.answer);
+    }
+    return outcome;
+}
+
+struct outcome model_desk_restart(struct desk desk)
+{
+    if (!desk_in_range(&desk))
+        return refused(desk, FOLDHARBOR_BAD_DESK);
+    return (struct outcome){.desk = fresh_desk(desk.card)};
+}
+
+/* The exercise file. */
+
 static const uint8_t *place_of_card(const uint8_t *exercise, uint32_t number)
 {
     return exercise + HEADER_BYTES + CARD_BYTES * (number - 1);
@@ -466,7 +655,7 @@ static const uint8_t *place_of_runs(const uint8_t *exercise, const struct exerci
 static uint32_t read_header(const uint8_t *exercise, size_t exercise_length, struct exercise_counts *counts)
 {
     if (exercise_length < HEADER_BYTES)
-        return REFUSED_LAYOUT;
+        return FOLDHARBOR_BAD_FILE;
     counts->cards = read_half(exercise);
     counts->runs = read_half(exercise + 2);
 
@@ -476,17 +665,17 @@ static uint32_t read_header(const uint8_t *exercise, size_t exercise_length, str
     if (!within(1, counts->cards, MOST_CARDS) || counts->runs > MOST_RUNS ||
         read_half(exercise + 4) != HEADER_BYTES || read_half(exercise + 6) != runs_offset ||
         read_half(exercise + 8) != total || exercise_length != total)
-        return REFUSED_LAYOUT;
+        return FOLDHARBOR_BAD_FILE;
     return 0;
 }
 
 static uint32_t read_cards(const uint8_t *exercise, const struct exercise_counts *counts)
 {
     for (uint32_t number = 1; number <= counts->cards; number++) {
-        struct card card = read_card(place_of_card(exercise, number));
+        struct card card = model_read_card(place_of_card(exercise, number));
 
         if (!card_in_range(&card))
-            return REFUSED_CARD;
+            return FOLDHARBOR_BAD_CARD;
     }
     return 0;
 }
@@ -502,9 +691,9 @@ static uint32_t read_runs(const uint8_t *exercise, struct exercise_counts *count
 
         counts->ticks += ticks;
         if (ticks == 0 || counts->ticks > FOLDHARBOR_MOST_TICKS)
-            return REFUSED_TICKS;
+            return FOLDHARBOR_BAD_TICKS;
         if (!record_in_range(&record))
-            return REFUSED_RECORD;
+            return FOLDHARBOR_BAD_RECORD;
     }
     return 0;
 }
@@ -525,7 +714,7 @@ uint32_t model_read_exercise(const uint8_t *exercise, size_t exercise_length, st
 static void run_exercise(const uint8_t *exercise, const struct exercise_counts *counts, uint32_t number,
                          uint8_t *answer)
 {
-    struct card card = read_card(place_of_card(exercise, number));
+    struct card card = model_read_card(place_of_card(exercise, number));
     struct state state = model_fresh_state();
     const uint8_t *run = place_of_runs(exercise, counts);
 
@@ -548,12 +737,12 @@ uint32_t model_run_exercise(const uint8_t *exercise, size_t exercise_length, uin
     if (refusal != 0)
         return FOLDHARBOR_REFUSED + refusal;
     if (!within(1, card, counts.cards))
-        return FOLDHARBOR_NO_CARD;
+        return FOLDHARBOR_REFUSED + FOLDHARBOR_NO_SUCH_CARD;
     refusal = read_runs(exercise, &counts);
     if (refusal != 0)
         return FOLDHARBOR_REFUSED + refusal;
     if (answers_length < FOLDHARBOR_ANSWER_BYTES * counts.ticks)
-        return FOLDHARBOR_NO_ROOM;
+        return FOLDHARBOR_REFUSED + FOLDHARBOR_SHORT_BUFFER;
     run_exercise(exercise, &counts, card, answers);
     return counts.ticks;
 }

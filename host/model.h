@@ -1,6 +1,6 @@
 /*
  * A plain model of the desk in C, written from the rules and not from the proved code.
- * The tests compare the proved call with it; the benchmark takes it as the measure.
+ * The tests compare the proved calls with it; the benchmark takes it as the measure.
  */
 #ifndef FOLDHARBOR_MODEL_H
 #define FOLDHARBOR_MODEL_H
@@ -49,9 +49,17 @@ enum {
     BRAKES_RELEASED = 2           /* pressure band */
 };
 
+enum { /* what the desk may hold beyond what the rules name */
+    MOST_AGE = 5000,
+    MOST_VIGILANCE_TICKS = 599,
+    MOST_STANDING = 1000,
+    MOST_CAUSES = 31
+};
+
+enum { CARD_BYTES = 20, RECORD_BYTES = 8, ANSWER_BYTES = 8 };
+
 enum { /* the exercise file */
     HEADER_BYTES = 10,
-    CARD_BYTES = 20,
     RUN_BYTES = 10,
     RECORD_IN_RUN = 2, /* the record stands behind the ticks */
     MOST_CARDS = 8,
@@ -71,6 +79,12 @@ struct card {
 struct record {
     uint32_t speed; /* (v) */
     uint32_t code, mode, lever, flags, band, sense;
+};
+
+/* What a cab hands over at a tick: the floats in m/s and in bar, and the switches as a record has them. */
+struct sample {
+    float speed, pressure;
+    uint32_t code, mode, lever, flags, sense;
 };
 
 /* What the desk holds for PRE alone: from the last code to the kind of the one-time prompt. */
@@ -99,15 +113,39 @@ struct state {
     uint32_t causes;          /* held, NZ1 in bit 0 */
 };
 
+/* The desk: handed in and handed back by each call. */
+struct desk {
+    struct card card;
+    uint32_t ticks; /* (n) */
+    struct state state;
+};
+
+struct outcome {
+    struct desk desk;
+    uint8_t answer[ANSWER_BYTES];
+    uint32_t refusal; /* 0 if accepted */
+};
+
 struct exercise_counts {
     uint32_t cards, runs, ticks;
 };
+
+/* A card and a record in their bytes, in range or not. */
+struct card model_read_card(const uint8_t *place);
+void model_write_card(uint8_t *place, const struct card *card);
+void model_write_record(uint8_t *place, const struct record *record);
 
 /* The state of a desk on which no tick has been played. */
 struct state model_fresh_state(void);
 
 /* Plays one tick: changes the state and writes the 8 answer bytes. Card and record are in range. */
 void model_tick(const struct card *card, struct state *state, const struct record *record, uint8_t *answer);
+
+/* The calls on a desk. Whatever is handed in, they do the same as foldharbor_open, _tick, _step_back and _restart. */
+struct outcome model_desk_open(struct card card);
+struct outcome model_desk_tick(struct desk desk, struct sample sample, uint8_t *journal, size_t journal_length);
+struct outcome model_desk_step_back(struct desk desk, uint32_t count, const uint8_t *journal, size_t journal_length);
+struct outcome model_desk_restart(struct desk desk);
 
 /* Reads an exercise file: gives the number of the refusal, 0 if accepted, and the counts, zeros if refused. */
 uint32_t model_read_exercise(const uint8_t *exercise, size_t exercise_length, struct exercise_counts *counts);

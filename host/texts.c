@@ -121,11 +121,11 @@ static enum fault fault_of(const uint8_t *bytes, size_t length)
 static foldharbor_place model_text(const uint8_t *chosen, size_t length, uint32_t language, uint32_t message)
 {
     if (language != 1 && language != 2)
-        return (foldharbor_place){.refusal = FOLDHARBOR_NO_LANGUAGE};
+        return (foldharbor_place){.refusal = FOLDHARBOR_NO_SUCH_LANGUAGE};
     if (fault_of(chosen, length) != NO_FAULT)
         return (foldharbor_place){.refusal = FOLDHARBOR_BAD_TABLE};
     if (message >= read_half(chosen))
-        return (foldharbor_place){.refusal = FOLDHARBOR_NO_MESSAGE};
+        return (foldharbor_place){.refusal = FOLDHARBOR_NO_SUCH_MESSAGE};
     return (foldharbor_place){.start = offset_in(chosen, message), .end = offset_in(chosen, message + 1)};
 }
 
@@ -141,7 +141,7 @@ struct lent {
 };
 
 static uint64_t calls, failures;
-static uint64_t outcomes[3][FOLDHARBOR_NO_LANGUAGE + 1]; /* by language, 0 for any that is not 1 or 2, and by refusal */
+static uint64_t outcomes[3][FOLDHARBOR_NO_SUCH_LANGUAGE + 1]; /* by language, 0 for any that is not 1 or 2, and by refusal */
 static uint64_t tables_seen[FAULTS];
 static uint64_t strings_seen[2]; /* of one kind: ill-formed ones, well-formed ones */
 
@@ -683,11 +683,11 @@ int main(void)
     compare_strings(&dice);
     compare_tables(&dice);
     printf("calls:\n");
-    report_seen("refused 17", outcomes[0][FOLDHARBOR_NO_LANGUAGE]);
+    report_seen("refused 17", outcomes[0][FOLDHARBOR_NO_SUCH_LANGUAGE]);
     for (int language = 1; language <= 2; language++) {
         printf(" in language %d:\n", language);
         report_seen("refused 15", outcomes[language][FOLDHARBOR_BAD_TABLE]);
-        report_seen("refused 16", outcomes[language][FOLDHARBOR_NO_MESSAGE]);
+        report_seen("refused 16", outcomes[language][FOLDHARBOR_NO_SUCH_MESSAGE]);
         report_seen("accepted", outcomes[language][0]);
     }
     printf("texts: %" PRIu64 " calls, %" PRIu64 " failures\n", calls, failures);

@@ -60,17 +60,17 @@ static uint32_t run(uint32_t card, size_t answers_length)
 
 static void check_refusal(const char *name, uint32_t card, size_t answers_length, uint32_t number)
 {
-    check(run(card, answers_length) == number, name, card, "another number than this refusal's");
+    check(run(card, answers_length) == FOLDHARBOR_REFUSED + number, name, card, "another number than this refusal's");
     check(memcmp(answers, untouched, sizeof answers) == 0, name, card, "a refusal changed the buffer");
 }
 
 static void check_refused(const char *name, uint32_t number)
 {
-    /* The layout and the cards are looked at before the card number, the runs after it. */
-    bool before_card_number = number == FOLDHARBOR_BAD_LAYOUT || number == FOLDHARBOR_BAD_CARD;
+    /* The file's shape and the cards are looked at before the card number, the runs after it. */
+    bool before_card_number = number == FOLDHARBOR_BAD_FILE || number == FOLDHARBOR_BAD_CARD;
 
     check_refusal(name, 1, MOST_ANSWERS, number);
-    check_refusal(name, 0, MOST_ANSWERS, before_card_number ? number : FOLDHARBOR_NO_CARD);
+    check_refusal(name, 0, MOST_ANSWERS, before_card_number ? number : FOLDHARBOR_NO_SUCH_CARD);
 }
 
 static void check_accepted(const char *folder, const char *name)
@@ -92,10 +92,10 @@ static void check_accepted(const char *folder, const char *name)
         run(card, MOST_ANSWERS);
         check(memcmp(answers, expected, sizeof answers) == 0, name, card, "another byte in a longer buffer");
         if (length > 0)
-            check_refusal(name, card, length - 1, FOLDHARBOR_NO_ROOM);
+            check_refusal(name, card, length - 1, FOLDHARBOR_SHORT_BUFFER);
     }
-    check_refusal(name, 0, MOST_ANSWERS, FOLDHARBOR_NO_CARD);
-    check_refusal(name, cards + 1, MOST_ANSWERS, FOLDHARBOR_NO_CARD);
+    check_refusal(name, 0, MOST_ANSWERS, FOLDHARBOR_NO_SUCH_CARD);
+    check_refusal(name, cards + 1, MOST_ANSWERS, FOLDHARBOR_NO_SUCH_CARD);
 }
 
 static void check_exercise(const char *folder, const char *name)
@@ -111,7 +111,7 @@ static void check_exercise(const char *folder, const char *name)
     }
     text[text_length] = 0;
     if (sscanf((const char *)text, "refused %u", &number) == 1)
-        check_refused(name, FOLDHARBOR_REFUSED + number);
+        check_refused(name, number);
     else
         check_accepted(folder, name);
 }

@@ -2,11 +2,12 @@
 ghost use mathlib.Core.Path.{_≡_};
 ghost use Prim.Native.Nat.{_+_, _≤_};
 ghost use lib.ListN.{length};
-ghost use Rattle.card.specs.Card.{cardInRange, cardWidth, cardAt, putCard};
+ghost use Rattle.card.specs.Card.{cardInRange, noCard, cardWidth, cardAt, putCard};
 use layout::u16_within;
 use reading::TOP_SPEED;
 
 // Speeds in tenths of km/h, times in ticks of 0.1 s.
+#[repr(C)]
 pub struct Card {
     pub design: u16,
     pub set: u16,
@@ -53,6 +54,24 @@ pub fn card_in_range(card: Card) -> bool
         & (150 <= card.cycle)
         & (card.cycle <= 600)
         & ((card.wait == SHORT_WAIT) | (card.wait == LONG_WAIT))
+}
+
+// A card of zeros, which is out of range.
+pub fn no_card() -> Card
+    ensures { λ r. ⌜ r ≡ noCard ⌝ }
+{
+    Card {
+        design: 0,
+        set: 0,
+        highest: 0,
+        pos: 0,
+        zav: 0,
+        tolerance: 0,
+        stop: 0,
+        deceleration: 0,
+        cycle: 0,
+        wait: 0,
+    }
 }
 
 // The card in the 20 bytes from `at`.

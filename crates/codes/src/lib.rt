@@ -14,6 +14,7 @@ use record::Keys;
 use record::Record;
 
 // The last code, the gap and the raise.
+#[repr(C)]
 pub struct Codes {
     // the last code
     pub last: u8,

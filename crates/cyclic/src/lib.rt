@@ -10,6 +10,7 @@ use record::Record;
 use signal::Signal;
 
 // Cyclic vigilance.
+#[repr(C)]
 pub struct Cyclic {
     // 0 none, 1 ordinary, 2 increased
     pub kind: u8,

@@ -13,6 +13,7 @@ use rules::AfterTick;
 use rules::Answer;
 use state::State;
 
+#[repr(C)]
 pub struct Desk {
     pub card: Card,
     // the ticks that the journal holds
@@ -21,6 +22,7 @@ pub struct Desk {
 }
 
 // What a call returns: the new desk, the answer, and the number of the refusal, 0 where the call was accepted.
+#[repr(C)]
 pub struct Outcome {
     pub desk: Desk,
     pub answer: Answer,
@@ -49,21 +51,11 @@ fn fresh_desk(card: Card) -> Desk
 fn no_desk() -> Desk
     ensures { λ desk. ⌜ desk ≡ noDesk ⌝ }
 {
+    let card = card::no_card();
     let mut state = state::fresh_state();
     state.mode = 0;
     Desk {
-        card: Card {
-            design: 0,
-            set: 0,
-            highest: 0,
-            pos: 0,
-            zav: 0,
-            tolerance: 0,
-            stop: 0,
-            deceleration: 0,
-            cycle: 0,
-            wait: 0,
-        },
+        card: card,
         n: 0,
         state: state,
     }

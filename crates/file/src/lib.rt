@@ -15,6 +15,7 @@ use record::RECORD_WIDTH;
 use record::Record;
 
 // What the reader found: the number of its refusal, 0 where there is none, and the counts.
+#[repr(C)]
 pub struct Counts {
     pub refusal: u8,
     pub cards: u16,

@@ -11,6 +11,7 @@ use record::Keys;
 use signal::Curve;
 
 // The prompt of one-time vigilance.
+#[repr(C)]
 pub struct Prompt {
     // u, 1 from the tick in which the prompt comes; 0: no prompt
     pub ticks: u8,

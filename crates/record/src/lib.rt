@@ -17,6 +17,7 @@ use refusal::BAD_FIELD;
 use refusal::first_refusal;
 
 // What the cab delivers at a tick: two floats and the switches.
+#[repr(C)]
 pub struct Sample {
     // in m/s
     pub speed: f32,

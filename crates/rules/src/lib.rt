@@ -43,6 +43,7 @@ pub struct Findings {
 }
 
 // What the desk shows after a tick.
+#[repr(C)]
 pub struct Answer {
     // P
     pub permitted: u16,

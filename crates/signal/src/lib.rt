@@ -16,6 +16,7 @@ use record::Keys;
 use record::Record;
 
 // The braking curve.
+#[repr(C)]
 pub struct Curve {
     // V0, the speed it starts from; 0: no curve
     pub start: u16,
@@ -26,6 +27,7 @@ pub struct Curve {
 }
 
 // What the desk holds of the signals.
+#[repr(C)]
 pub struct Signal {
     pub codes: Codes,
     pub curve: Curve,

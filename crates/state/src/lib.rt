@@ -11,6 +11,7 @@ use record::Record;
 use signal::Signal;
 
 // All that the desk holds but its card and n.
+#[repr(C)]
 pub struct State {
     pub mode: u8,
     // the three buttons of the last tick: vigilance, PLUS, MAN

@@ -11,10 +11,10 @@ use denote.Triple.Clauses.{Lasts, atExit}
 use Rattle.numbers.proofs.Alike.{alike}
 use Rattle.texts.specs.Text.{chosen}
 use Rattle.texts.proofs.Answers.{Answer, answer}
-use Rattle.host.proofs.foldharbor_run_exercise as call
-use Rattle.host.proofs.foldharbor_run_exercise.Reads as calling
-use Rattle.host.proofs.foldharbor_text as text
-use Rattle.host.proofs.foldharbor_text.Reads as telling
+use Rattle.foldharbor.proofs.foldharbor_run_exercise as call
+use Rattle.foldharbor.proofs.foldharbor_run_exercise.Reads as calling
+use Rattle.foldharbor.proofs.foldharbor_text as text
+use Rattle.foldharbor.proofs.foldharbor_text.Reads as telling
 
 pub call-asks-nothing : (κs : Lfts 2) (a : _) (w : World) → calling.requires κs a tt w ≡ emp (w .𝓤)
 call-asks-nothing κs a w = refl

@@ -1,6 +1,6 @@
 -- `foldharbor_text` answers what `text_place` answers: the contracts are the same.
-use Rattle.host.proofs.foldharbor_text.Statement.{statement}
-use Rattle.host.proofs.foldharbor_text.Tie as tie
+use Rattle.foldharbor.proofs.foldharbor_text.Statement.{statement}
+use Rattle.foldharbor.proofs.foldharbor_text.Tie as tie
 use borrow.Author.Needs.{needs}
 
 text-place-requires : tie.Need-text-place-requires
