@@ -1,4 +1,4 @@
--- Demand 1, `demand1`, of our functions: what a refused call returns and leaves.
+-- Demand 1, `demand1`, of our functions, and `demand1-exported` of the exported calls: what a refused call returns and leaves.
 -- From the contracts' equations, by the laws of each definition where it refuses and by its reasons in their order. Assumes nothing.
 use Prim.Native.Nat.{ℕ, _+_}
 use native.Mathlib.Omega.{arith}
@@ -19,7 +19,7 @@ use Rattle.exercise.specs.Run.{exerciseRefusal, exerciseOutcome}
 use Rattle.exercise.proofs.Outcome.{run-number, buffer-no}
 use Rattle.demands.specs.Ranges.{zeroDesk, zeroAnswer}
 use Rattle.demands.specs.Demand1.{OneOf, Demand1}
-use Rattle.demands.proofs.Functions.{functions, opens-is, ticks-is, steps-back-is, steps-back-reads, restarts-is}
+use Rattle.demands.proofs.Functions.{functions, exported, exported-same, opens-is, ticks-is, steps-back-is, steps-back-reads, restarts-is}
 use Rattle.demands.proofs.Functions.{reads-is, runs-is, hosts-is, returning}
 use Rattle.demands.proofs.Exactly.{one-of}
 use Rattle.demands.proofs.Refusals.{open-first, tick-first, back-first, restart-first, read-first, exercise-first}
@@ -105,3 +105,6 @@ demand1 = record {
         e .2 ∙ buffer-no file card B m,
       );
 }
+
+pub demand1-exported : Demand1 exported
+demand1-exported = rw exported-same demand1

@@ -1,4 +1,5 @@
--- Demand 2, `demand2`, of our functions: each number exactly when the paper says, and what an accepted call gives.
+-- Demand 2, `demand2`, of our functions, and `demand2-exported` of the exported calls: each number exactly when the paper says, and what an accepted
+-- call gives.
 -- From the contracts' equations, by the reasons in their order, the laws of each definition where it accepts, and the tick's law of ranges. Assumes nothing.
 use Prim.Native.Nat.{ℕ, _+_, _-_, _*_}
 use native.Mathlib.Nat.{zero-add}
@@ -42,7 +43,7 @@ use Rattle.exercise.proofs.Outcome.{run-number, buffer-yes}
 use Rattle.exercise.proofs.Buffer.{answers-length}
 use Rattle.demands.specs.Ranges.{DeskFits, freshOf}
 use Rattle.demands.specs.Demand2.{RecordOf, Gives, Begins, WrittenAt, Driven, Answered, Demand2}
-use Rattle.demands.proofs.Functions.{functions, opens-is, ticks-is, steps-back-is, steps-back-reads, restarts-is}
+use Rattle.demands.proofs.Functions.{functions, exported, exported-same, opens-is, ticks-is, steps-back-is, steps-back-reads, restarts-is}
 use Rattle.demands.proofs.Functions.{reads-is, runs-is, hosts-is}
 use Rattle.demands.proofs.Exactly.{exactly}
 use Rattle.demands.proofs.Ranges.{desk-fits}
@@ -190,3 +191,6 @@ demand2 = record {
         λ z. let a = host-accepted file card (length B) z in (a .0, rw (a .0) (a .1), e .1, driven file, answered file card B z),
       );
 }
+
+pub demand2-exported : Demand2 exported
+demand2-exported = rw exported-same demand2

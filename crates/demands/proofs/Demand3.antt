@@ -1,4 +1,5 @@
--- Demand 3, `demand3`, of our functions: calls that they made are those of the definitions, of which Replay.antt has it.
+-- Demand 3, `demand3`, of our functions, and `demand3-exported` of the exported calls: calls that they made are those of the definitions, of which
+-- Replay.antt has it.
 -- From the contracts' equations, by induction on the calls. Assumes nothing.
 use Prim.Native.Nat.{ℕ, _+_, _-_, _≤_, _<_}
 use native.Mathlib.Omega.{arith}
@@ -19,7 +20,7 @@ use Rattle.desk.proofs.Calls as Calls
 use Rattle.demands.specs.Reasons.{ExactlyFrom}
 use Rattle.demands.specs.Demand3.{Call, Tick, Back, Restart, Drive, survivors, next, opened}
 use Rattle.demands.specs.Demand3.{Room, Returns, Called, done, then, Same, Fed, LastAnswer, NoneLeft, Demand3}
-use Rattle.demands.proofs.Functions.{functions, opens-is, ticks-is, steps-back-is, steps-back-reads, restarts-is}
+use Rattle.demands.proofs.Functions.{functions, exported, exported-same, opens-is, ticks-is, steps-back-is, steps-back-reads, restarts-is}
 use Rattle.demands.proofs.Exactly.{exactly}
 use Rattle.demands.proofs.Refusals.{sample-first}
 use Rattle.demands.proofs.Replay as Replay
@@ -133,3 +134,6 @@ demand3 card o J cs os s f z c =
       last-answer card L ok s v,
       none-left card L ok s v,
     )
+
+pub demand3-exported : Demand3 exported
+demand3-exported = rw exported-same demand3

@@ -1,6 +1,7 @@
--- Our functions as the demands speak of calls. What a function asks is its `requires`, what it may return is what it is proved to show (`Post` of the
--- generated module `Reads`, its `ensures` as the check reads them off the source), and what its parameters may be at exit is what their types say (`ended`).
--- `now` is what a lent slice holds. The laws below take the contracts' equations and the types' out; nothing else of the relations is used.
+-- Our functions as the demands speak of calls, and the calls that the archive exports. What a function asks is its `requires`, what it may return is what
+-- it is proved to show (`Post` of the generated module `Reads`, its `ensures` as the check reads them off the source), and what its parameters may be at
+-- exit is what their types say (`ended`). `now` is what a lent slice holds. The laws below take the contracts' equations and the types' out; nothing else
+-- of the relations is used.
 use Prim.Native.Nat.{ℕ}
 use mathlib.Core.Path.{_≡_, refl, sym, ap, ap₂, _∙_}
 use mathlib.Core.List.{List, []}
@@ -20,7 +21,7 @@ use Rattle.file.specs.declared.Counts.{Counts}
 use Rattle.file.specs.declared.Total.{Total}
 use Rattle.file.specs.Read.{readOutcome}
 use Rattle.exercise.specs.Run.{exerciseOutcome, exerciseBuffer}
-use Rattle.host.specs.Host.{hostNumber}
+use Rattle.foldharbor.specs.Exercise.{hostNumber}
 use Rattle.desk.proofs.Desk.open.Reads as opening
 use Rattle.desk.proofs.Desk.tick as tickCall
 use Rattle.desk.proofs.Desk.tick.Reads as ticking
@@ -31,8 +32,16 @@ use Rattle.file.proofs.read as readCall
 use Rattle.file.proofs.read.Reads as reading
 use Rattle.exercise.proofs.run as runCall
 use Rattle.exercise.proofs.run.Reads as running
-use Rattle.host.proofs.foldharbor_run_exercise as hostCall
-use Rattle.host.proofs.foldharbor_run_exercise.Reads as hosting
+use Rattle.foldharbor.proofs.foldharbor_open.Reads as exportedOpening
+use Rattle.foldharbor.proofs.foldharbor_tick as exportedTickCall
+use Rattle.foldharbor.proofs.foldharbor_tick.Reads as exportedTicking
+use Rattle.foldharbor.proofs.foldharbor_step_back as exportedBackCall
+use Rattle.foldharbor.proofs.foldharbor_step_back.Reads as exportedBacking
+use Rattle.foldharbor.proofs.foldharbor_restart.Reads as exportedRestarting
+use Rattle.foldharbor.proofs.foldharbor_read_exercise as exportedReadCall
+use Rattle.foldharbor.proofs.foldharbor_read_exercise.Reads as exportedReading
+use Rattle.foldharbor.proofs.foldharbor_run_exercise as hostCall
+use Rattle.foldharbor.proofs.foldharbor_run_exercise.Reads as hosting
 use Rattle.demands.specs.Functions.{Functions}
 use Rattle.demands.specs.Demand1.{Returning}
 
@@ -87,6 +96,37 @@ functions =
       hosts-asks = λ file card buffer.
           (κs : Lfts 2) (f : Lent file) (b : Lent buffer) → FromNothing (hosting.requires κs (f .0, (card, (b .0, tt))) tt);
     }
+
+-- the calls of the archive; `exercise::run` itself is not exported, `hosts` is its call
+pub exported : Functions
+exported =
+    record {
+      opens = λ card out. (κs : Lfts 0) × (exit : _) × exportedOpening.Post κs (card, tt) out exit;
+      opens-asks = λ card. (κs : Lfts 0) → FromNothing (exportedOpening.requires κs (card, tt) tt);
+      ticks = λ desk sample journal out left.
+          (κs : Lfts 1) × (j : Lent journal)
+          × Returned exportedTickCall.ended exportedTicking.Post κs (desk, (sample, (j .0, tt))) out (λ exit. now (exit .1 .1 .0) ≡ left);
+      ticks-asks = λ desk sample journal. (κs : Lfts 1) (j : Lent journal) → FromNothing (exportedTicking.requires κs (desk, (sample, (j .0, tt))) tt);
+      steps-back = λ desk k journal out left.
+          (κs : Lfts 1) × (j : Lent journal)
+          × Returned exportedBackCall.ended exportedBacking.Post κs (desk, (k, (j .0, tt))) out (λ exit. now (exit .1 .1 .0) ≡ left);
+      steps-back-asks = λ desk k journal. (κs : Lfts 1) (j : Lent journal) → FromNothing (exportedBacking.requires κs (desk, (k, (j .0, tt))) tt);
+      restarts = λ desk out. (κs : Lfts 0) × (exit : _) × exportedRestarting.Post κs (desk, tt) out exit;
+      restarts-asks = λ desk. (κs : Lfts 0) → FromNothing (exportedRestarting.requires κs (desk, tt) tt);
+      reads = λ file counts file-left.
+          (κs : Lfts 1) × (f : Lent file)
+          × Returned exportedReadCall.ended exportedReading.Post κs (f .0, tt) counts (λ exit. now (exit .0) ≡ file-left);
+      reads-asks = λ file. (κs : Lfts 1) (f : Lent file) → FromNothing (exportedReading.requires κs (f .0, tt) tt);
+      runs = functions .runs;
+      runs-asks = functions .runs-asks;
+      hosts = functions .hosts;
+      hosts-asks = functions .hosts-asks;
+    }
+
+-- their contracts are those of the functions, to the letter
+pub exported-same : exported ≡ functions
+unfolding functions exported
+exported-same = refl
 
 -- ---- the equations of the contracts, and of the slices that are lent to be read
 pub opens-is : (card : Card) (o : Outcome) → functions .opens card o → o ≡ openOutcome card

@@ -1,4 +1,4 @@
--- The valve, `valve`, of our functions: what an accepted call answers is what the desk holds.
+-- The valve, `valve`, of our functions, and `valve-exported` of the exported calls: what an accepted call answers is what the desk holds.
 -- From the contracts' equations, by what an answer says of its state (rules/proofs/Valve.antt), and by where an exercise's answers lie. Assumes nothing.
 use Prim.Native.Nat.{ℕ, _+_, _-_, _*_, _≤_, _<_}
 use native.Mathlib.Omega.{arith}
@@ -24,7 +24,7 @@ use Rattle.exercise.specs.Answers.{answers}
 use Rattle.exercise.proofs.Buffer.{answers-length, answers-byte}
 use Rattle.demands.specs.Demand2.{Begins, Answered}
 use Rattle.demands.specs.Valve.{ValveIs, OfOutcome, OfEach, Valve}
-use Rattle.demands.proofs.Functions.{functions}
+use Rattle.demands.proofs.Functions.{functions, exported, exported-same}
 use Rattle.demands.proofs.Demand2.{demand2}
 
 none-listed : listed (heldIn 0) ≡ []
@@ -80,3 +80,6 @@ valve = record {
   exercise = λ file card B x g C f z. each file card B C (demand2 .exercise file card B x g C f .1 z .3);
   host = λ file card B x g C f z. each file card B C (demand2 .host file card B x g C f .1 z .4);
 }
+
+pub valve-exported : Valve exported
+valve-exported = rw exported-same valve

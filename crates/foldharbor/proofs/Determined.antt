@@ -1,6 +1,5 @@
--- The host calls' contracts determine what they return and every byte of the buffer: two outcomes that satisfy one are equal. And what a text's place is.
--- They ask nothing of their caller. `requires` and `Post` are the contract as the check reads it off the source;
--- `s .1 .1 .0` is the buffer, the third parameter, at exit.
+-- Each exported call asks nothing of its caller, and its contract determines what it returns and every lent byte: two outcomes that satisfy it are equal.
+-- `requires` and `Post` are the contract as the check reads it off the source: a `requires`, or an `ensures` that says less, breaks these lines.
 -- `atExit` is what the parameters hold afterwards, by their types: a slice that is lent to be read holds what it held.
 use mathlib.Core.Path.{_≡_, refl}
 use denote.Ref.{now}
@@ -9,42 +8,123 @@ use contract.Lifetimes.{Lfts}
 use borrow.Fn.World.{World}
 use denote.Triple.Clauses.{Lasts, atExit}
 use Rattle.numbers.proofs.Alike.{alike}
-use Rattle.texts.specs.Text.{chosen}
-use Rattle.texts.proofs.Answers.{Answer, answer}
-use Rattle.foldharbor.proofs.foldharbor_run_exercise as call
-use Rattle.foldharbor.proofs.foldharbor_run_exercise.Reads as calling
-use Rattle.foldharbor.proofs.foldharbor_text as text
+use Rattle.foldharbor.proofs.foldharbor_version.Reads as version
+use Rattle.foldharbor.proofs.foldharbor_open.Reads as opening
+use Rattle.foldharbor.proofs.foldharbor_tick.Reads as ticking
+use Rattle.foldharbor.proofs.foldharbor_step_back as backCall
+use Rattle.foldharbor.proofs.foldharbor_step_back.Reads as backing
+use Rattle.foldharbor.proofs.foldharbor_restart.Reads as restarting
+use Rattle.foldharbor.proofs.foldharbor_card_at as cardAtCall
+use Rattle.foldharbor.proofs.foldharbor_card_at.Reads as cardAt
+use Rattle.foldharbor.proofs.foldharbor_put_card.Reads as putCard
+use Rattle.foldharbor.proofs.foldharbor_answer_at as answerAtCall
+use Rattle.foldharbor.proofs.foldharbor_answer_at.Reads as answerAt
+use Rattle.foldharbor.proofs.foldharbor_put_answer.Reads as putAnswer
+use Rattle.foldharbor.proofs.foldharbor_read_exercise as readCall
+use Rattle.foldharbor.proofs.foldharbor_read_exercise.Reads as reading
+use Rattle.foldharbor.proofs.foldharbor_run_exercise as runCall
+use Rattle.foldharbor.proofs.foldharbor_run_exercise.Reads as running
+use Rattle.foldharbor.proofs.foldharbor_text as textCall
 use Rattle.foldharbor.proofs.foldharbor_text.Reads as telling
 
-pub call-asks-nothing : (κs : Lfts 2) (a : _) (w : World) → calling.requires κs a tt w ≡ emp (w .𝓤)
-call-asks-nothing κs a w = refl
+pub version-asks-nothing : (κs : Lfts 0) (a : _) (w : World) → version.requires κs a tt w ≡ emp (w .𝓤)
+version-asks-nothing κs a w = refl
 
-pub call-determined : (κs : Lfts 2) (a : _) (x y : _) (s t : _) → calling.Post κs a x s → calling.Post κs a y t
+pub version-determined : (κs : Lfts 0) (a : _) (x y : _) (s t : _) → version.Post κs a x s → version.Post κs a y t → x ≡ y
+version-determined κs a x y s t p q = alike p q
+
+-- ---- the desk
+pub open-asks-nothing : (κs : Lfts 0) (a : _) (w : World) → opening.requires κs a tt w ≡ emp (w .𝓤)
+open-asks-nothing κs a w = refl
+
+pub open-determined : (κs : Lfts 0) (a : _) (x y : _) (s t : _) → opening.Post κs a x s → opening.Post κs a y t → x ≡ y
+open-determined κs a x y s t p q = alike p q
+
+pub tick-asks-nothing : (κs : Lfts 1) (a : _) (w : World) → ticking.requires κs a tt w ≡ emp (w .𝓤)
+tick-asks-nothing κs a w = refl
+
+-- `s .1 .1 .0` is the journal, the third parameter, at exit
+pub tick-determined : (κs : Lfts 1) (a : _) (x y : _) (s t : _) → ticking.Post κs a x s → ticking.Post κs a y t
     → (x ≡ y) × (now (s .1 .1 .0) ≡ now (t .1 .1 .0))
-call-determined κs a x y s t p q = (alike (p .0) (q .0), alike (p .1) (q .1))
+tick-determined κs a x y s t p q = (alike (p .0) (q .0), alike (p .1) (q .1))
 
--- the exercise
-pub call-reads : (κs : Lfts 2) (a : _) (last : Lasts call.ended κs a) → now (atExit call.ended κs a last .0) ≡ now (a .0)
-call-reads κs a last = refl
+pub step-back-asks-nothing : (κs : Lfts 1) (a : _) (w : World) → backing.requires κs a tt w ≡ emp (w .𝓤)
+step-back-asks-nothing κs a w = refl
 
+pub step-back-determined : (κs : Lfts 1) (a : _) (x y : _) (s t : _) → backing.Post κs a x s → backing.Post κs a y t → x ≡ y
+step-back-determined κs a x y s t p q = alike p q
+
+pub step-back-reads : (κs : Lfts 1) (a : _) (last : Lasts backCall.ended κs a) → now (atExit backCall.ended κs a last .1 .1 .0) ≡ now (a .1 .1 .0)
+step-back-reads κs a last = refl
+
+pub restart-asks-nothing : (κs : Lfts 0) (a : _) (w : World) → restarting.requires κs a tt w ≡ emp (w .𝓤)
+restart-asks-nothing κs a w = refl
+
+pub restart-determined : (κs : Lfts 0) (a : _) (x y : _) (s t : _) → restarting.Post κs a x s → restarting.Post κs a y t → x ≡ y
+restart-determined κs a x y s t p q = alike p q
+
+-- ---- a card and an answer among bytes
+pub card-at-asks-nothing : (κs : Lfts 1) (a : _) (w : World) → cardAt.requires κs a tt w ≡ emp (w .𝓤)
+card-at-asks-nothing κs a w = refl
+
+pub card-at-determined : (κs : Lfts 1) (a : _) (x y : _) (s t : _) → cardAt.Post κs a x s → cardAt.Post κs a y t → x ≡ y
+card-at-determined κs a x y s t p q = alike p q
+
+pub card-at-reads : (κs : Lfts 1) (a : _) (last : Lasts cardAtCall.ended κs a) → now (atExit cardAtCall.ended κs a last .0) ≡ now (a .0)
+card-at-reads κs a last = refl
+
+pub put-card-asks-nothing : (κs : Lfts 1) (a : _) (w : World) → putCard.requires κs a tt w ≡ emp (w .𝓤)
+put-card-asks-nothing κs a w = refl
+
+-- `s .1 .0` are the bytes, the second parameter, at exit
+pub put-card-determined : (κs : Lfts 1) (a : _) (x y : _) (s t : _) → putCard.Post κs a x s → putCard.Post κs a y t
+    → (x ≡ y) × (now (s .1 .0) ≡ now (t .1 .0))
+put-card-determined κs a x y s t p q = (alike (p .0) (q .0), alike (p .1) (q .1))
+
+pub answer-at-asks-nothing : (κs : Lfts 1) (a : _) (w : World) → answerAt.requires κs a tt w ≡ emp (w .𝓤)
+answer-at-asks-nothing κs a w = refl
+
+pub answer-at-determined : (κs : Lfts 1) (a : _) (x y : _) (s t : _) → answerAt.Post κs a x s → answerAt.Post κs a y t → x ≡ y
+answer-at-determined κs a x y s t p q = alike p q
+
+pub answer-at-reads : (κs : Lfts 1) (a : _) (last : Lasts answerAtCall.ended κs a) → now (atExit answerAtCall.ended κs a last .0) ≡ now (a .0)
+answer-at-reads κs a last = refl
+
+pub put-answer-asks-nothing : (κs : Lfts 1) (a : _) (w : World) → putAnswer.requires κs a tt w ≡ emp (w .𝓤)
+put-answer-asks-nothing κs a w = refl
+
+pub put-answer-determined : (κs : Lfts 1) (a : _) (x y : _) (s t : _) → putAnswer.Post κs a x s → putAnswer.Post κs a y t
+    → (x ≡ y) × (now (s .1 .0) ≡ now (t .1 .0))
+put-answer-determined κs a x y s t p q = (alike (p .0) (q .0), alike (p .1) (q .1))
+
+-- ---- exercises
+pub read-asks-nothing : (κs : Lfts 1) (a : _) (w : World) → reading.requires κs a tt w ≡ emp (w .𝓤)
+read-asks-nothing κs a w = refl
+
+pub read-determined : (κs : Lfts 1) (a : _) (x y : _) (s t : _) → reading.Post κs a x s → reading.Post κs a y t → x ≡ y
+read-determined κs a x y s t p q = alike p q
+
+pub read-reads : (κs : Lfts 1) (a : _) (last : Lasts readCall.ended κs a) → now (atExit readCall.ended κs a last .0) ≡ now (a .0)
+read-reads κs a last = refl
+
+pub run-asks-nothing : (κs : Lfts 2) (a : _) (w : World) → running.requires κs a tt w ≡ emp (w .𝓤)
+run-asks-nothing κs a w = refl
+
+-- `s .1 .1 .0` is the buffer, the third parameter, at exit
+pub run-determined : (κs : Lfts 2) (a : _) (x y : _) (s t : _) → running.Post κs a x s → running.Post κs a y t
+    → (x ≡ y) × (now (s .1 .1 .0) ≡ now (t .1 .1 .0))
+run-determined κs a x y s t p q = (alike (p .0) (q .0), alike (p .1) (q .1))
+
+pub run-reads : (κs : Lfts 2) (a : _) (last : Lasts runCall.ended κs a) → now (atExit runCall.ended κs a last .0) ≡ now (a .0)
+run-reads κs a last = refl
+
+-- ---- texts
 pub text-asks-nothing : (κs : Lfts 1) (a : _) (w : World) → telling.requires κs a tt w ≡ emp (w .𝓤)
 text-asks-nothing κs a w = refl
 
 pub text-determined : (κs : Lfts 1) (a : _) (x y : _) (s t : _) → telling.Post κs a x s → telling.Post κs a y t → x ≡ y
 text-determined κs a x y s t p q = alike p q
 
--- the two tables
-pub text-reads : (κs : Lfts 1) (a : _) (last : Lasts text.ended κs a)
-    → (now (atExit text.ended κs a last .0) ≡ now (a .0)) × (now (atExit text.ended κs a last .1 .0) ≡ now (a .1 .0))
+pub text-reads : (κs : Lfts 1) (a : _) (last : Lasts textCall.ended κs a)
+    → (now (atExit textCall.ended κs a last .0) ≡ now (a .0)) × (now (atExit textCall.ended κs a last .1 .0) ≡ now (a .1 .0))
 text-reads κs a last = (refl, refl)
-
--- the other table has no influence: two calls whose chosen tables have the same bytes answer alike
-pub text-alone : (κs : Lfts 1) (first second first′ second′ language number : _) (x y : _) (s t : _)
-    → now (chosen language first second) ≡ now (chosen language first′ second′)
-    → telling.Post κs (first, (second, (language, (number, tt)))) x s → telling.Post κs (first′, (second′, (language, (number, tt)))) y t → x ≡ y
-text-alone κs first second first′ second′ language number x y s t same p q = alike (rw same at p) q
-
--- what it answers: for which reason it refuses, with zeros then, and else the message
-pub text-answer : (κs : Lfts 1) (first second language number : _) (x s : _)
-    → telling.Post κs (first, (second, (language, (number, tt)))) x s → Answer (now (chosen language first second)) language number x
-text-answer κs first second language number x s post = rw post (answer _ _ _)
