@@ -13,7 +13,7 @@ change() {
     rm "$tree/crates/$1.was"
 }
 
-# a step back that restarts, and may write the journal as it likes, which one law of `desk` itself would refuse
+# a step back that restarts, and may write the journal as it likes, which one law of `desk` itself would refuse; exported alike
 change desk/proofs/Determined.antt '/^pub step-back-reads /d; /^step-back-reads /d'
 change desk/src/lib.rt '/pub fn step_back(/,/^    }$/c\
     pub fn step_back(self, k: u32, journal: \&mut [u8]) -> Outcome\
@@ -21,7 +21,13 @@ change desk/src/lib.rt '/pub fn step_back(/,/^    }$/c\
     {\
         self.restart()\
     }'
-rm -r "$tree/crates/desk/proofs/Desk/step_back"
+change foldharbor/proofs/Determined.antt '/^pub step-back-reads /d; /^step-back-reads /d'
+change foldharbor/src/lib.rt '/fn foldharbor_step_back(/,/^}$/{s/&\[u8\]/\&mut [u8]/; s/backOutcome desk k .*entry))/restartOutcome desk/}'
+rm -r "$tree/crates/desk/proofs/Desk/step_back" "$tree/crates/foldharbor/proofs/foldharbor_step_back"
+
+# an exported restart that opens a desk of the card, and so refuses as an opening does
+change foldharbor/src/lib.rt '/fn foldharbor_restart(/,/^}$/{s/restartOutcome desk/openOutcome (desk .card)/; s/desk\.restart()/Desk::open(desk.card)/}'
+rm -r "$tree/crates/foldharbor/proofs/foldharbor_restart"
 
 # mode 1 in the desk of a refused opening
 change desk/src/lib.rt 's/state\.mode = 0;/state.mode = 1;/'
@@ -45,11 +51,11 @@ change rules/specs/Answer.antt 's/answer \.lowest ∷ answer \.held/answer .held
 
 (cd "$tree" && rt check demands) >"$tree/log" 2>&1
 wrong=0
-for crate in rules journal desk exercise host; do
+for crate in rules journal desk exercise foldharbor; do
     grep -q "^rt: $crate proved" "$tree/log" || { echo "$crate is not proved"; wrong=1; }
 done
 # the law that each of them breaks
-for law in Functions:steps-back-is Functions:steps-back-reads Demand1:open-no Refusals:desk-first Demand3:room-for Valve:each; do
+for law in Functions:same-restarts Functions:steps-back-is Functions:steps-back-reads Demand1:open-no Refusals:desk-first Demand3:room-for Valve:each; do
     grep "demands/proofs/${law%:*}\.antt:.* error: \`${law#*:}\`" "$tree/log" | grep -qv 'was not admitted' || { echo "not refused: ${law#*:}"; wrong=1; }
 done
 [ $wrong = 1 ] || rm -r "$tree"

@@ -123,7 +123,29 @@ exported =
       hosts-asks = functions .hosts-asks;
     }
 
--- their contracts are those of the functions, to the letter
+-- their contracts are those of the functions, to the letter: call by call, so that a difference is told, and all in all
+same-opens : (card : Card) (out : Outcome) → exported .opens card out ≡ functions .opens card out
+unfolding functions exported
+same-opens card out = refl
+
+same-ticks : (desk : Desk) (sample : Sample) (journal : List ℕ) (out : Outcome) (left : List ℕ)
+    → exported .ticks desk sample journal out left ≡ functions .ticks desk sample journal out left
+unfolding functions exported
+same-ticks desk sample journal out left = refl
+
+same-steps-back : (desk : Desk) (k : ℕ) (journal : List ℕ) (out : Outcome) (left : List ℕ)
+    → exported .steps-back desk k journal out left ≡ functions .steps-back desk k journal out left
+unfolding functions exported
+same-steps-back desk k journal out left = refl
+
+same-restarts : (desk : Desk) (out : Outcome) → exported .restarts desk out ≡ functions .restarts desk out
+unfolding functions exported
+same-restarts desk out = refl
+
+same-reads : (file : List ℕ) (counts : Counts) (file-left : List ℕ) → exported .reads file counts file-left ≡ functions .reads file counts file-left
+unfolding functions exported
+same-reads file counts file-left = refl
+
 pub exported-same : exported ≡ functions
 unfolding functions exported
 exported-same = refl
