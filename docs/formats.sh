@@ -134,8 +134,6 @@ check_row() {
     [[ ${cells[0]} =~ ^[0-9] ]] || return
     if [[ $1 =~ (FOLDHARBOR_[A-Z0-9_]+) ]]; then
         local name=${BASH_REMATCH[1]} value=${constants[${BASH_REMATCH[1]}]:-none}
-        # a refusal of the C call is 10,000 more than its number
-        [[ $value != none ]] && ((value > 10000 && value < 10100)) && value=$((value - 10000))
         listed[$name]=1
         [[ ${cells[0]} =~ ^([0-9]+) && ${BASH_REMATCH[1]} = "$value" ]] || miss "$name is $value in the header"
         if [[ ${cells[1]} =~ ^[0-9]+$ ]]; then
