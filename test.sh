@@ -58,6 +58,8 @@ need() {
 log=$(mktemp)
 command -v rt >/dev/null || { echo "rt, the kit's command, is not on the PATH"; failed=1; close; }
 need cmp diffutils
+need g++ g++
+need pkg-config pkgconf
 if [ "$(uname -m)" = x86_64 ]; then
     need cc gcc libc6-dev
 else
@@ -94,20 +96,36 @@ done
 
 made=target/host
 check "the archive" sh host/build.sh
-check "cc vectors" sh host/build.sh $made/vectors host/vectors.c
-check "cc compare" sh host/build.sh $made/compare host/compare.c host/generate.c host/model.c
-check "cc header" sh host/build.sh $made/header host/header.c
-check "cc bench" sh host/build.sh $made/bench host/bench.c host/generate.c host/model.c
-check "cc texts" sh host/build.sh $made/texts host/texts.c
-check "cc long" sh host/build.sh $made/long host/long.c host/model.c
-check "the C call on the exercises" sh host/run.sh $made/vectors tests/exercises
+# compile NAME SOURCES..: a program of the tests, by the names of its sources in host/tests/
+compile() {
+    local name=$1
+    shift
+    check "cc $name" sh host/build.sh "$made/$name" "${@/#/host/tests/}"
+}
+compile vectors vectors.c
+compile structs structs.c
+compile header header.c
+compile compare compare.c generate.c model.c
+compile drives drives.c both.c cases.c some.c fields.c generate.c model.c
+compile pieces pieces.c some.c fields.c generate.c model.c
+compile texts texts.c
+compile long long.c model.c
+compile bench bench.c fields.c generate.c model.c
+check "cc live" sh host/build.sh $made/live host/live.c
+check "the header's structs are the archive's" sh host/run.sh $made/structs
+check "the header as C and as C++" bash tests/header.sh
+check "the exercise call on the exercises" sh host/run.sh $made/vectors tests/exercises
 check "docs/FORMATS.md, its examples and the header's names" bash docs/formats.sh
-check "the C call against the model" sh host/run.sh $made/compare
+check "the exercise calls against the model" sh host/run.sh $made/compare
+check "the calls on a desk against the model" sh host/run.sh $made/drives
+check "cards and answers among bytes against the model" sh host/run.sh $made/pieces
 check "the text call against the model" sh host/run.sh $made/texts
 check "long drives by the model" sh host/run.sh $made/long $made
 for length in 57599 57600 57608; do
     check "drive journal $made/long-$length.drive" with_journal $made/long-$length
 done
 check "the example host" both_languages bash host/example.sh tests/exercises/04.ex
+check "the small cab desk" bash tests/live.sh
+check "an installation" bash tests/install.sh
 check "scripts and programs at their edges" bash tests/scripts.sh
 close

@@ -1,7 +1,8 @@
 #!/bin/sh
 # Builds a C program against the archive: sh host/build.sh OUT SOURCES.. (compiler options may stand among the sources); without words the archive alone.
-# compare.c and bench.c go with generate.c and model.c, long.c with model.c; vectors.c, texts.c and example.c stand alone.
+# live.c and example.c stand alone; which of the sources in host/tests/ go together test.sh shows.
 # The archive is for x86-64 on every machine. It is made where it is missing or older than something under crates/.
+# LIBRARY=".." is options that say where header and archive are, such as what pkg-config prints; without it they are those of this tree.
 # CC names the compiler, on Arm a clang, and CFLAGS adds options. Debian packages: on x86-64 gcc and libc6-dev; on Arm clang, lld and libc6-dev.
 set -eu
 
@@ -10,7 +11,7 @@ crate=foldharbor # the one whose archive it is
 here=$(CDPATH='' cd -- "$(dirname -- "$0")" && pwd)
 root=$(dirname -- "$here")
 archive=$root/target/staticlib/lib$crate.a
-if [ ! -f "$archive" ] || [ -n "$(find "$root/crates" "$root/crates.txt" -newer "$archive")" ]; then
+if [ -z "${LIBRARY-}" ] && { [ ! -f "$archive" ] || [ -n "$(find "$root/crates" "$root/crates.txt" -newer "$archive")" ]; }; then
     echo "the archive is missing or older than a source: it is proved and made first" >&2
     bash "$root/prove.sh" staticlib "$crate"
 fi
@@ -22,9 +23,15 @@ command -v "${compiler%% *}" >/dev/null || { echo "no compiler $compiler: instal
 out=$1
 shift
 mkdir -p -- "$(dirname -- "$out")"
-# CC and CFLAGS are lists of words
+# LIBRARY, CC and CFLAGS are lists of words
+if [ -n "${LIBRARY-}" ]; then
+    # shellcheck disable=SC2086
+    set -- "$@" $LIBRARY
+else
+    set -- -I "$here" "$@" "$archive"
+fi
 # shellcheck disable=SC2086
-set -- -std=c11 -O2 -Wall -Wextra -Wpedantic ${CFLAGS-} -I "$here" "$@" "$archive" -o "$out"
+set -- -std=c11 -O2 -Wall -Wextra -Wpedantic ${CFLAGS-} "$@" -o "$out"
 if [ "$machine" = x86_64 ]; then
     # shellcheck disable=SC2086
     exec $compiler "$@"

@@ -44,25 +44,22 @@ static void print_message(uint32_t message)
     }
 }
 
-static void print_answer(const uint8_t *answer)
+static void print_answer(foldharbor_answer answer)
 {
-    const unsigned prompt_and_kind = FOLDHARBOR_ONE_TIME_PROMPT | FOLDHARBOR_ONE_TIME_KIND;
-    unsigned permitted = answer[0] + 256u * answer[1];
-    unsigned target = answer[2] + 256u * answer[3];
-    unsigned marks = answer[4], causes = answer[5];
+    const unsigned prompt_and_kind = FOLDHARBOR_MARK_ONE_TIME_PROMPT | FOLDHARBOR_MARK_ONE_TIME_KIND;
 
-    printf("  permitted %u.%u km/h", permitted / 10, permitted % 10);
-    if (target > 0)
-        printf(", target %u.%u km/h", target / 10, target % 10);
-    printf("\n  shown:%s\n", marks == 0 ? " nothing" : "");
+    printf("  permitted %u.%u km/h", answer.permitted / 10, answer.permitted % 10);
+    if (answer.target > 0)
+        printf(", target %u.%u km/h", answer.target / 10, answer.target % 10);
+    printf("\n  shown:%s\n", answer.marks == 0 ? " nothing" : "");
     for (unsigned bit = 0; bit < 6; bit++)
-        if ((marks & ~prompt_and_kind) >> bit & 1)
+        if ((answer.marks & ~prompt_and_kind) >> bit & 1)
             print_message(FOLDHARBOR_TEXT_MARK + bit);
-    if (marks & FOLDHARBOR_ONE_TIME_PROMPT)
-        print_message(FOLDHARBOR_TEXT_ONE_TIME_PROMPT + (marks & FOLDHARBOR_ONE_TIME_KIND ? 1 : 0));
-    printf("  valve %s, causes held: %u\n", causes != 0 ? "open" : "closed", answer[7]);
+    if (answer.marks & FOLDHARBOR_MARK_ONE_TIME_PROMPT)
+        print_message(FOLDHARBOR_TEXT_ONE_TIME_PROMPT + (answer.marks & FOLDHARBOR_MARK_ONE_TIME_KIND ? 1 : 0));
+    printf("  valve %s, causes held: %u\n", answer.causes != 0 ? "open" : "closed", answer.held);
     for (unsigned bit = 0; bit < 8; bit++)
-        if (causes >> bit & 1)
+        if (answer.causes >> bit & 1)
             print_message(FOLDHARBOR_TEXT_CAUSE + bit);
 }
 
@@ -102,7 +99,10 @@ int main(int count, char **arguments)
             return finish(1);
         }
         printf("card %u, ticks %u\n", (unsigned)card, (unsigned)ticks);
-        if (ticks > 0)
-            print_answer(answers + FOLDHARBOR_ANSWER_BYTES * (ticks - 1));
+        if (ticks > 0) {
+            const uint8_t *last = answers + FOLDHARBOR_ANSWER_BYTES * (ticks - 1);
+
+            print_answer(foldharbor_answer_at(last, FOLDHARBOR_ANSWER_BYTES));
+        }
     }
 }

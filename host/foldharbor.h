@@ -1,5 +1,5 @@
 /*
- * Foldharbor, the train-protection desk, for C and C++. Link with libfoldharbor.a.
+ * Foldharbor, the train-protection desk, for C and C++ on x86-64 Linux. Link with libfoldharbor.a.
  *
  * A cab that is driven live, ten times a second:
  *
@@ -25,6 +25,8 @@
  *   static uint8_t journal[FOLDHARBOR_JOURNAL_BYTES];
  *   foldharbor_outcome out = foldharbor_open(card);
  *
+ *   if (out.refusal != 0)
+ *       give_up(out.refusal);
  *   while (ten_times_a_second()) {
  *       out = foldharbor_tick(out.desk, readings_of_the_cab(), journal, sizeof journal);
  *       if (out.refusal == 0)
@@ -34,11 +36,14 @@
  *       set_valve(out.desk.state.causes != 0);
  *   }
  *
- * Every call returns, whatever is handed over: any number, any struct and any bytes. What does not fit is refused with a
- * number, and a refused call changes nothing. What is asked of a host is only that each pointer is good for its length, not
- * null even if the length is 0, and that bytes which a call writes do not overlap bytes which it reads. Nothing is kept from
- * one call to the next, and no call waits, allocates or reads a clock: threads may call at the same time, while nobody
- * writes what a call reads or writes.
+ * A desk takes 7,200 ticks, 12 minutes; then each tick is refused with FOLDHARBOR_FULL_JOURNAL, until a step back, a
+ * restart or another opening.
+ *
+ * Every call returns, whatever is handed over: any number, any struct and any bytes. What does not fit is refused with
+ * a number, and a refused call changes nothing. What is asked of a host is only that each pointer is good for its
+ * length, not null even if the length is 0, and that bytes which a call writes do not overlap bytes which it reads.
+ * Nothing is kept from one call to the next, and no call waits, allocates or reads a clock: threads may call at the
+ * same time, while nobody else touches what a call writes.
  */
 #ifndef FOLDHARBOR_H
 #define FOLDHARBOR_H
@@ -51,15 +56,15 @@ extern "C" {
 #endif
 
 /*
- * The version of this header: 10,000 times the first number, 100 times the second, and the third. The first grows where a
- * host has to be compiled anew. Returns the archive's, which has to be the same: an older header's structs may differ.
+ * The version of this header, 1.0.0: 10,000 times the first number, 100 times the second, and the third. The call
+ * returns the archive's. The first numbers of the two have to be the same: otherwise the structs may differ.
  */
 #define FOLDHARBOR_VERSION 10000
 uint32_t foldharbor_version(void);
 
 /*
- * Refusals. Each call lists those that it gives in the order in which they are looked for, and gives the first that applies.
- * 0 is none.
+ * Refusals; 0 is none. Each call lists those that it gives in the order in which they are looked for, and gives the
+ * first that applies.
  */
 enum {
     FOLDHARBOR_BAD_SPEED = 1,     /* of a sample: not a number, infinite, below 0, or above 250.0 km/h when rounded */
@@ -76,16 +81,21 @@ enum {
     FOLDHARBOR_BAD_TICKS = 11,    /* a run of 0 ticks, or one that takes the sum of ticks over 7,200 */
     FOLDHARBOR_SHORT_BUFFER = 12, /* the answer buffer has fewer than 8 bytes for each tick */
     FOLDHARBOR_NO_SUCH_CARD = 13, /* the file has no card of the asked number: 0, or above its count */
-    FOLDHARBOR_BAD_TABLE = 15,    /* anything in the chosen table of texts is not as it should be, in whatever message */
-    FOLDHARBOR_NO_SUCH_MESSAGE = 16, /* the message's number is not below the chosen table's count */
-    FOLDHARBOR_NO_SUCH_LANGUAGE = 17 /* the language is neither 1 nor 2 */
+    FOLDHARBOR_BAD_TABLE = 15,    /* anything in the chosen table of texts is not as said below, in whatever message */
+    FOLDHARBOR_NO_SUCH_MESSAGE = 16,  /* the message's number is not below the chosen table's count */
+    FOLDHARBOR_NO_SUCH_LANGUAGE = 17, /* the language is neither 1 nor 2 */
+    FOLDHARBOR_REFUSED = 10000        /* foldharbor_run_exercise returns this plus the number */
 };
 
 /*
  * Units: a tick is 0.1 s, and speeds are in tenths of km/h, if nothing else is said.
  */
-enum { /* limits; where no least is named it is 0 */
+enum { /* sizes in bytes, and limits; where no least is named it is 0 */
     FOLDHARBOR_MOST_TICKS = 7200, /* of a desk, and of all runs of an exercise: 12 minutes */
+    FOLDHARBOR_RECORD_BYTES = 8,
+    FOLDHARBOR_JOURNAL_BYTES = FOLDHARBOR_RECORD_BYTES * FOLDHARBOR_MOST_TICKS, /* enough for any drive */
+    FOLDHARBOR_ANSWER_BYTES = 8,
+    FOLDHARBOR_CARD_BYTES = 20,
     FOLDHARBOR_MOST_SPEED = 2500, /* of a card and of a record */
     FOLDHARBOR_MOST_TOLERANCE = 100,
     FOLDHARBOR_MOST_STOP = 400,
@@ -94,21 +104,29 @@ enum { /* limits; where no least is named it is 0 */
     FOLDHARBOR_LEAST_CYCLE = 150,
     FOLDHARBOR_MOST_CYCLE = 600,
     FOLDHARBOR_SHORT_WAIT = 250,
-    FOLDHARBOR_LONG_WAIT = 1000
+    FOLDHARBOR_LONG_WAIT = 1000,
+    FOLDHARBOR_HEADER_BYTES = 10, /* of an exercise file */
+    FOLDHARBOR_RUN_BYTES = 2 + FOLDHARBOR_RECORD_BYTES,
+    FOLDHARBOR_MOST_CARDS = 8, /* in an exercise file, and at least one */
+    FOLDHARBOR_MOST_RUNS = 6000,
+    FOLDHARBOR_MOST_BYTES = FOLDHARBOR_HEADER_BYTES + FOLDHARBOR_MOST_CARDS * FOLDHARBOR_CARD_BYTES +
+                            FOLDHARBOR_MOST_RUNS * FOLDHARBOR_RUN_BYTES, /* of the longest exercise file */
+    FOLDHARBOR_MOST_MESSAGES = 64, /* in a table of texts */
+    FOLDHARBOR_MOST_TABLE_BYTES = 65535
 };
 
-/* The card: what the train is, as the school sets it. */
+/* The card: what the train is, as the school sets it. In parentheses, here and below, the range. */
 typedef struct foldharbor_card {
-    uint16_t design;       /* design speed: from 1 to FOLDHARBOR_MOST_SPEED, as the next four */
+    uint16_t design;       /* design speed (1 to 2500, as the next four) */
     uint16_t set;          /* set speed */
     uint16_t highest;      /* highest speed */
     uint16_t pos;          /* ceiling of mode POS */
     uint16_t zav;          /* ceiling of mode ZAV */
-    uint16_t tolerance;    /* over the permitted speed before NZ2: to FOLDHARBOR_MOST_TOLERANCE */
-    uint16_t stop;         /* target of code Stop: to FOLDHARBOR_MOST_STOP */
-    uint16_t deceleration; /* of a braking curve, in tenths of km/h per second: FOLDHARBOR_LEAST_ to MOST_DECELERATION */
-    uint16_t cycle;        /* of ordinary vigilance, in ticks: FOLDHARBOR_LEAST_CYCLE to FOLDHARBOR_MOST_CYCLE */
-    uint16_t wait;         /* of the movement check, in ticks: FOLDHARBOR_SHORT_WAIT or FOLDHARBOR_LONG_WAIT, no other */
+    uint16_t tolerance;    /* over the permitted speed before NZ2 (0 to 100) */
+    uint16_t stop;         /* target of code Stop (0 to 400) */
+    uint16_t deceleration; /* of a braking curve, in tenths of km/h per second (5 to 40) */
+    uint16_t cycle;        /* of ordinary vigilance, in ticks (150 to 600) */
+    uint16_t wait;         /* of the movement check, in ticks (250 or 1000, no other) */
 } foldharbor_card;
 
 enum { /* signal codes */
@@ -133,8 +151,8 @@ enum { /* of the lever, and of motion */
 };
 
 enum { /* bits of the flags of a sample and of a record; the highest bit is 0 */
-    FOLDHARBOR_FLAG_VIGILANCE = 1 << 0, /* the first three are buttons: what counts is the tick that presses one */
-    FOLDHARBOR_FLAG_PLUS = 1 << 1,
+    FOLDHARBOR_FLAG_VIGILANCE = 1 << 0, /* the first three are set while a button is down; it is pressed in a tick */
+    FOLDHARBOR_FLAG_PLUS = 1 << 1,      /* with the button down after one with it up */
     FOLDHARBOR_FLAG_MAN = 1 << 2,
     FOLDHARBOR_FLAG_DIRECT_BRAKE = 1 << 3,
     FOLDHARBOR_FLAG_REMOTE_STOP = 1 << 4,
@@ -144,22 +162,22 @@ enum { /* bits of the flags of a sample and of a record; the highest bit is 0 */
 
 /* A sample: the cab's readings at a tick. */
 typedef struct foldharbor_sample {
-    float speed;    /* in m/s; rounded to tenths of km/h exactly, halves up */
-    float pressure; /* in the main line, in bar */
-    uint8_t code;   /* signal code */
-    uint8_t mode;   /* asked for; the desk takes it where the speed is 0 */
-    uint8_t lever;  /* its direction */
-    uint8_t flags;
-    uint8_t sense; /* direction of motion */
+    float speed;    /* in m/s, rounded to tenths of km/h exactly, halves up (to 69.458 m/s, which is 2500) */
+    float pressure; /* in the main line, in bar (0 to 10) */
+    uint8_t code;   /* signal code (0 to 4) */
+    uint8_t mode;   /* asked for; the desk takes it where the speed is 0 (1 to 4) */
+    uint8_t lever;  /* its direction (0 to 2) */
+    uint8_t flags;  /* (0 to 127) */
+    uint8_t sense;  /* direction of motion (0 to 2) */
 } foldharbor_sample;
 
 enum { /* bits of an answer's marks */
-    FOLDHARBOR_MAN = 1 << 0,             /* MAN is on */
-    FOLDHARBOR_CURVE = 1 << 1,           /* a braking curve is running */
-    FOLDHARBOR_CYCLIC_PROMPT = 1 << 2,   /* cyclic vigilance asks for the button */
-    FOLDHARBOR_ONE_TIME_PROMPT = 1 << 3, /* one-time vigilance asks for the button */
-    FOLDHARBOR_ONE_TIME_KIND = 1 << 4,   /* kind of that prompt: 0 at a curve's start, 1 when nearing the curve */
-    FOLDHARBOR_ZS20 = 1 << 5             /* warning tone ZS20 sounds */
+    FOLDHARBOR_MARK_MAN = 1 << 0,             /* MAN is on */
+    FOLDHARBOR_MARK_CURVE = 1 << 1,           /* a braking curve is running */
+    FOLDHARBOR_MARK_CYCLIC_PROMPT = 1 << 2,   /* cyclic vigilance asks for the button */
+    FOLDHARBOR_MARK_ONE_TIME_PROMPT = 1 << 3, /* one-time vigilance asks for the button */
+    FOLDHARBOR_MARK_ONE_TIME_KIND = 1 << 4,   /* kind of that prompt: 0 at a curve's start, 1 when nearing the curve */
+    FOLDHARBOR_MARK_ZS20 = 1 << 5             /* warning tone ZS20 sounds */
 };
 
 enum { /* bits of the causes: each opens the emergency brake valve for as long as it is held */
@@ -181,8 +199,8 @@ typedef struct foldharbor_answer {
 } foldharbor_answer;
 
 /*
- * The desk: all that is kept between ticks. A host keeps it, copies it, puts it back, and hands it to the next call. It may
- * read the fields; what it writes there is judged by the next call (FOLDHARBOR_BAD_DESK). In parentheses the range.
+ * The desk: all that is kept between ticks. A host keeps it, copies it, puts it back, and hands it to the next call. It
+ * may read the fields; what it writes there the next call judges by its range alone (FOLDHARBOR_BAD_DESK).
  */
 typedef struct foldharbor_codes {
     uint8_t last;        /* code of the last tick in PRE (0 to 4) */
@@ -231,8 +249,8 @@ typedef struct foldharbor_desk {
 } foldharbor_desk;
 
 /*
- * What a call on a desk returns. A refusal gives back the very desk that was handed in and an answer of zeros: so a host may
- * always go on with the desk, and sets the valve by desk.state.causes, which a refused reading leaves as it was.
+ * What a call on a desk returns. A refusal gives back the very desk that was handed in, and an answer of zeros. So a
+ * host always goes on with the desk, and sets the valve by desk.state.causes, which a refused reading leaves as it was.
  */
 typedef struct foldharbor_outcome {
     foldharbor_desk desk;
@@ -247,33 +265,31 @@ typedef struct foldharbor_outcome {
 foldharbor_outcome foldharbor_open(foldharbor_card card);
 
 /*
- * The journal is a buffer of the host's in which each tick leaves its record, 8 bytes: tick i, counted from 0, at bytes 8i to
- * 8i + 7. Hand the same buffer to every call on a desk, and leave its bytes alone: a step back rebuilds the desk from them.
- * What it holds before the first tick does not matter.
- */
-enum {
-    FOLDHARBOR_RECORD_BYTES = 8,
-    FOLDHARBOR_JOURNAL_BYTES = FOLDHARBOR_RECORD_BYTES * FOLDHARBOR_MOST_TICKS /* enough for any drive; fewer end it earlier */
-};
-
-/*
- * Plays one tick: the desk a tick later, with what it shows. Writes the record to bytes 8n to 8n + 7 of the journal, and no
- * other byte. Refusals: FOLDHARBOR_BAD_DESK, SHORT_JOURNAL, FULL_JOURNAL, BAD_SPEED, BAD_PRESSURE, BAD_FIELD; then no byte
- * of the journal changes.
+ * Plays one tick: the desk a tick later, and what it shows. Writes the tick's record to bytes 8n to 8n + 7 of the
+ * journal, for the n of the desk handed in, and no other byte. Refusals: FOLDHARBOR_BAD_DESK, SHORT_JOURNAL,
+ * FULL_JOURNAL, BAD_SPEED, BAD_PRESSURE, BAD_FIELD; then no byte of the journal changes.
+ *
+ * The journal is a buffer of the host's with the records of all ticks. Hand the same buffer to every call on a desk, and
+ * leave its bytes alone: a step back rebuilds the desk from them. What it holds before the first tick does not matter.
+ * FOLDHARBOR_JOURNAL_BYTES are enough for any drive; a shorter one is full earlier.
  */
 foldharbor_outcome foldharbor_tick(foldharbor_desk desk, foldharbor_sample sample, uint8_t *journal,
                                    size_t journal_length);
 
 /*
- * Strikes the last k ticks: the desk and the answer as they were after the tick before them, rebuilt from the journal; an
- * answer of zeros where no tick is left. 10 ticks are a second, k may be 0. Writes nothing: the next ticks are recorded over
- * the struck ones. Refusals: FOLDHARBOR_BAD_DESK, SHORT_JOURNAL, BACK_TOO_FAR, BAD_RECORD.
+ * Strikes the last k ticks: the desk and the answer as they were after the tick before those, rebuilt from the journal;
+ * an answer of zeros where no tick is left. 10 ticks are a second; k may be 0. Writes nothing: the next ticks are
+ * recorded over the struck ones. Refusals: FOLDHARBOR_BAD_DESK, SHORT_JOURNAL, BACK_TOO_FAR, BAD_RECORD.
  *
- * It looks at the desk's card and n only, if the desk is in range. So a drive is kept in a file as its card
- * (foldharbor_put_card), n, and the first 8n bytes of its journal, and taken up again by opening a desk of the card, setting
- * its n, and a step back by 0.
+ * Of a desk in range it looks at card and n alone. So a drive is kept in a file as its card (foldharbor_put_card), its
+ * n and the first 8n bytes of its journal, and is taken up again by
+ *
+ *   out = foldharbor_open(foldharbor_card_at(kept, FOLDHARBOR_CARD_BYTES));
+ *   out.desk.n = n;
+ *   out = foldharbor_step_back(out.desk, 0, journal, journal_length);
  */
-foldharbor_outcome foldharbor_step_back(foldharbor_desk desk, uint32_t k, const uint8_t *journal, size_t journal_length);
+foldharbor_outcome foldharbor_step_back(foldharbor_desk desk, uint32_t k, const uint8_t *journal,
+                                        size_t journal_length);
 
 /*
  * Strikes all ticks: the fresh desk of the same card, and an answer of zeros. Refusal: FOLDHARBOR_BAD_DESK.
@@ -283,11 +299,6 @@ foldharbor_outcome foldharbor_restart(foldharbor_desk desk);
 /*
  * Bytes. Numbers of 16 bits have their low byte first. docs/FORMATS.md has every format with examples.
  */
-enum { /* sizes */
-    FOLDHARBOR_CARD_BYTES = 20,
-    FOLDHARBOR_ANSWER_BYTES = 8
-};
-
 enum { /* places in a card, 16 bits each, in the order of the struct's fields */
     FOLDHARBOR_CARD_DESIGN = 0,
     FOLDHARBOR_CARD_SET = 2,
@@ -341,16 +352,6 @@ size_t foldharbor_put_answer(foldharbor_answer answer, uint8_t *bytes, size_t le
 /*
  * An exercise file: a header, the cards, the runs, and nothing behind them. A run is so many ticks of one record.
  */
-enum { /* sizes in bytes, and limits */
-    FOLDHARBOR_HEADER_BYTES = 10,
-    FOLDHARBOR_RUN_BYTES = 2 + FOLDHARBOR_RECORD_BYTES,
-    FOLDHARBOR_MOST_CARDS = 8, /* and at least one */
-    FOLDHARBOR_MOST_RUNS = 6000,
-    /* length of the longest file */
-    FOLDHARBOR_MOST_BYTES = FOLDHARBOR_HEADER_BYTES + FOLDHARBOR_MOST_CARDS * FOLDHARBOR_CARD_BYTES +
-                            FOLDHARBOR_MOST_RUNS * FOLDHARBOR_RUN_BYTES
-};
-
 enum { /* places in the header, 16 bits each */
     FOLDHARBOR_FILE_CARDS = 0,        /* count */
     FOLDHARBOR_FILE_RUNS = 2,         /* count */
@@ -373,8 +374,8 @@ typedef struct foldharbor_counts {
 } foldharbor_counts;
 
 /*
- * Reads an exercise file. Refusals: FOLDHARBOR_BAD_FILE, BAD_CARD; then, in one run after the other, so that an earlier run
- * comes first, BAD_TICKS, BAD_RECORD.
+ * Reads an exercise file. Refusals: FOLDHARBOR_BAD_FILE, BAD_CARD; then, in one run after the other, so that an earlier
+ * run comes first, BAD_TICKS, BAD_RECORD.
  */
 foldharbor_counts foldharbor_read_exercise(const uint8_t *exercise, size_t exercise_length);
 
@@ -384,13 +385,11 @@ foldharbor_counts foldharbor_read_exercise(const uint8_t *exercise, size_t exerc
  *   card      which of its cards, counted from 1
  *   answers   where the answers go, 8 bytes for each tick, the first tick first
  *
- * Returns the count of ticks, 0 to 7,200; bytes of the buffer behind the last answer keep their values. A refusal returns
- * FOLDHARBOR_REFUSED plus its number, and changes no byte of the buffer: FOLDHARBOR_BAD_FILE, BAD_CARD, NO_SUCH_CARD; then,
- * in one run after the other, BAD_TICKS, BAD_RECORD; then SHORT_BUFFER.
+ * Returns the count of ticks, 0 to 7,200; bytes of the buffer behind the last answer keep their values. A refusal
+ * returns FOLDHARBOR_REFUSED plus its number, so a number above it, and changes no byte of the buffer:
+ * FOLDHARBOR_BAD_FILE, BAD_CARD, NO_SUCH_CARD; then, in one run after the other, BAD_TICKS, BAD_RECORD; then
+ * SHORT_BUFFER.
  */
-enum {
-    FOLDHARBOR_REFUSED = 10000 /* what is returned above this is a refusal, any other number a count of ticks */
-};
 uint32_t foldharbor_run_exercise(const uint8_t *exercise, size_t exercise_length, uint32_t card, uint8_t *answers,
                                  size_t answers_length);
 
@@ -405,11 +404,6 @@ uint32_t foldharbor_run_exercise(const uint8_t *exercise, size_t exercise_length
  * message may be empty. The last offset is the table's length, so a table has 65,535 bytes at most. Each message is
  * well-formed by itself, as the Unicode Standard defines UTF-8: no character is split over two messages.
  */
-enum {
-    FOLDHARBOR_MOST_TABLE_BYTES = 65535,
-    FOLDHARBOR_MOST_MESSAGES = 64 /* in a table */
-};
-
 /* Where a text is in its table: from start up to end, which is the place behind its last byte. */
 typedef struct foldharbor_place {
     uint8_t refusal; /* 0 if accepted; else start and end are 0 */

@@ -124,6 +124,44 @@ gives "example" 2 "" "standard output: No space left on device"
 run sh host/run.sh $example tests/exercises/02.ex "${tables[@]}"
 [ "$status" = 1 ] && [ "$(head -n 1 "$room/out")" = "$refused" ] || miss "example on a bad file"
 
+# ---- the small cab desk
+live=target/host/live
+heading=$(head -n 1 tests/live.txt)
+for words in x --slow "--fast --fast" "--help x"; do
+    # shellcheck disable=SC2086
+    run sh host/run.sh $live $words </dev/null
+    gives "live $words" 2 "" "usage: live [--fast]"
+    # shellcheck disable=SC2086
+    run bash host/live.sh $words </dev/null
+    gives "live.sh $words" 2 "" "usage: bash host/live.sh [--fast]"
+done
+run sh host/run.sh $live "" </dev/null
+gives "live with an empty word" 2 "" "usage: live [--fast]"
+run sh host/run.sh $live --help
+[[ $status = 0 && $(head -n 1 "$room/out") = "usage: live [--fast]" && ! -s $room/err ]] || miss "live --help"
+run sh host/run.sh $live --fast <"$room"
+gives "live on a directory" 2 "$heading" "standard input: Is a directory"
+for words in --fast --help; do
+    run full sh host/run.sh $live $words </dev/null
+    gives "live $words" 2 "" "standard output: No space left on device"
+done
+[ "$(sh host/run.sh $live --fast </dev/null | head -n 1)" = "$heading" ] || miss "live into a pipe that closes"
+
+# ---- install.sh
+usage="usage: bash host/install.sh PREFIX, where PREFIX is a folder such as /usr/local"
+for words in "" "a b" --help; do
+    # shellcheck disable=SC2086
+    run bash host/install.sh $words
+    gives "install.sh $words" 2 "" "$usage"
+done
+run bash host/install.sh ""
+gives "install.sh with an empty word" 2 "" "$usage"
+run bash host/install.sh /dev/null
+[[ $status = 2 && ! -s $room/out ]] && grep -q "Not a directory" "$room/err" || miss "install.sh does not tell that a folder can't be made"
+mkdir -p "$room/usr/include/foldharbor.h"
+run bash host/install.sh "$room/usr"
+[[ $status = 2 && ! -s $room/out && -s $room/err ]] || miss "install.sh does not tell that the header can't be written"
+
 # ---- while something is proved: a tree with a space in its name, whose `rt` writes down its words and makes what it is asked for
 tree="$room/a tree"
 mkdir -p "$tree/crates/show/src" "$tree/bin" "$tree/host"
@@ -176,6 +214,19 @@ CC=none run made_up sh host/build.sh a b
 gives "build.sh with no compiler" 2 "" "no compiler none: install it, or name yours by CC=.."
 FAIL=1 run made_up sh -c 'rm target/staticlib/*; sh host/build.sh a b'
 [ "$status" = 1 ] && grep -q "error: made up" "$room/err" || miss "build.sh goes on where the proof fails"
+# what another header and archive are named for needs none of this tree
+rm "$tree/called"
+CC=compiler LIBRARY="-I there -L there -lfoldharbor" run made_up sh host/build.sh a b.c
+gives "build.sh with a LIBRARY" 0 "" ""
+[[ $(cat "$tree/compiled") == *" b.c -I there -L there -lfoldharbor -o a"* && $(cat "$tree/compiled") != *"$tree"* && ! -e $tree/called ]] ||
+    miss "build.sh with a LIBRARY calls: $(cat "$tree/compiled")"
+# an installation makes the archive first, and installs nothing where it can't
+cp host/foldharbor.h "$tree/host"
+FAIL=1 run made_up bash host/install.sh "a place"
+[ "$status" = 1 ] && [ ! -e "$tree/a place" ] || miss "install.sh goes on where the proof fails"
+run made_up bash host/install.sh "a place/"
+[[ $status = 0 && -f "$tree/a place/lib/libfoldharbor.a" && $(head -n 1 "$tree/a place/lib/pkgconfig/foldharbor.pc") = "prefix=$tree/a place" ]] ||
+    miss "install.sh does not make the archive first"
 run sh host/build.sh a
 gives "build.sh on one word" 2 "" "usage: sh host/build.sh [OUT SOURCES..]"
 if ! PATH=/usr/bin:/bin command -v rt >/dev/null; then

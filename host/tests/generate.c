@@ -1,41 +1,8 @@
-/* See generate.h. The driver sees the model's desk, so that speeds, presses and lengths fall around the limits. */
+/* See generate.h. */
 #include "generate.h"
 
 #include "bytes.h"
 #include "foldharbor.h"
-#include "model.h"
-
-enum phase { STANDING, SETTING_OFF, CREEPING, CRUISING, KEEPING_TO_LIMIT, BRAKING, AT_BORDERS, ERRATIC, PHASES };
-
-struct driver {
-    struct dice *dice;
-    struct card card;
-    struct state state;
-    struct record record;
-    uint8_t answer[FOLDHARBOR_ANSWER_BYTES];
-    enum phase phase;
-    uint32_t carelessness; /* one prompt in so many is answered at once */
-    bool aimed;            /* the last run was cut to end at a border */
-    bool gap_made;         /* the last run was a gap in the code, so that the next has a code */
-};
-
-static uint32_t between(struct dice *dice, uint32_t least, uint32_t most)
-{
-    return least + dice_roll(dice, most - least + 1);
-}
-
-/* A number of the range, its ends more often than by chance. */
-static uint32_t between_or_end(struct dice *dice, uint32_t least, uint32_t most)
-{
-    switch (dice_roll(dice, 16)) {
-    case 0:
-        return least;
-    case 1:
-        return most;
-    default:
-        return between(dice, least, most);
-    }
-}
 
 static uint32_t near(struct dice *dice, uint32_t middle, uint32_t spread, uint32_t most)
 {
@@ -47,10 +14,10 @@ static uint32_t near(struct dice *dice, uint32_t middle, uint32_t spread, uint32
 
 static uint32_t card_speed(struct dice *dice)
 {
-    return dice_once_in(dice, 3) ? between_or_end(dice, 1, MOST_SPEED) : between(dice, 900, 1700);
+    return dice_once_in(dice, 3) ? dice_between_or_end(dice, 1, MOST_SPEED) : dice_between(dice, 900, 1700);
 }
 
-static struct card make_card(struct dice *dice)
+struct card generate_card(struct dice *dice)
 {
     struct card card;
 
@@ -58,13 +25,13 @@ static struct card make_card(struct dice *dice)
     card.set = dice_once_in(dice, 4) ? near(dice, SLOW_SET, 1, MOST_SPEED) : card_speed(dice);
     card.highest = card_speed(dice);
     if (dice_once_in(dice, 5)) /* no limit of the card below those of the modes */
-        card.design = card.set = card.highest = between(dice, PRE_CEILING, MOST_SPEED);
+        card.design = card.set = card.highest = dice_between(dice, PRE_CEILING, MOST_SPEED);
     card.pos_ceiling = card_speed(dice);
     card.zav_ceiling = card_speed(dice);
-    card.tolerance = between_or_end(dice, 0, 100);
-    card.stop_target = between_or_end(dice, 0, 400);
-    card.deceleration = between_or_end(dice, 5, 40);
-    card.cycle = between_or_end(dice, 150, 600);
+    card.tolerance = dice_between_or_end(dice, 0, 100);
+    card.stop_target = dice_between_or_end(dice, 0, 400);
+    card.deceleration = dice_between_or_end(dice, 5, 40);
+    card.cycle = dice_between_or_end(dice, 150, 600);
     card.wait = dice_once_in(dice, 3) ? 1000 : 250;
     return card;
 }
@@ -171,7 +138,7 @@ static void choose_button(struct driver *driver, uint32_t button, uint32_t seldo
 
 static void choose_buttons(struct driver *driver)
 {
-    uint32_t prompts = driver->answer[4] & (FOLDHARBOR_CYCLIC_PROMPT | FOLDHARBOR_ONE_TIME_PROMPT);
+    uint32_t prompts = driver->answer[4] & (FOLDHARBOR_MARK_CYCLIC_PROMPT | FOLDHARBOR_MARK_ONE_TIME_PROMPT);
     bool held = driver->answer[5] != 0;
     uint32_t seldom = 40;
 
@@ -183,7 +150,7 @@ static void choose_buttons(struct driver *driver)
         seldom = 8;
     choose_button(driver, FLAG_VIGILANCE, seldom);
     choose_button(driver, FLAG_PLUS, driver->record.code == CODE_FORTY ? 4 : 40);
-    choose_button(driver, FLAG_MAN, driver->answer[4] & FOLDHARBOR_CURVE ? 15 : 40);
+    choose_button(driver, FLAG_MAN, driver->answer[4] & FOLDHARBOR_MARK_CURVE ? 15 : 40);
 }
 
 static void choose_switch(struct driver *driver, uint32_t flag, uint32_t seldom_on, uint32_t seldom_off)
@@ -205,7 +172,7 @@ static void choose_switches(struct driver *driver)
     choose_switch(driver, FLAG_ADHESION_LOSS, 150, 5);
     choose_switch(driver, FLAG_CAB_ON, 5, 60);
     if (dice_once_in(dice, stands ? 6 : 40))
-        record->mode = dice_once_in(dice, 3) ? between(dice, MODE_POS, MODE_ZAV) : MODE_PRE;
+        record->mode = dice_once_in(dice, 3) ? dice_between(dice, MODE_POS, MODE_ZAV) : MODE_PRE;
     if (dice_once_in(dice, 40))
         record->lever = dice_roll(dice, 3);
     if (dice_once_in(dice, 10))
@@ -248,30 +215,44 @@ static uint32_t ticks_to_border(struct driver *driver)
 }
 
 /* The length of the next run; the record of a gap in the code is made here, as its length is what matters. */
-static uint32_t choose_ticks(struct driver *driver, uint32_t runs_left, uint32_t ticks_left)
+static uint32_t choose_ticks(struct driver *driver, uint32_t mean, uint32_t most)
 {
     struct dice *dice = driver->dice;
-    uint32_t most = ticks_left - (runs_left - 1);
-    uint32_t ticks = 1 + dice_roll(dice, 2 * (ticks_left / runs_left));
+    uint32_t ticks = 1 + dice_roll(dice, 2 * mean);
 
     driver->aimed = false;
     driver->gap_made = false;
     if (dice_once_in(dice, 60)) {
         driver->record.code = CODE_NONE;
         driver->gap_made = true;
-        ticks = between(dice, 49, 52);
+        ticks = dice_between(dice, 49, 52);
     } else if (dice_once_in(dice, driver->phase == STANDING ? 4 : 16)) {
         driver->aimed = true;
         ticks = near(dice, ticks_to_border(driver), 2, FOLDHARBOR_MOST_TICKS);
     } else if (dice_once_in(dice, 3)) {
         ticks = 1;
     }
-    if (runs_left == 1 || ticks > most)
+    if (ticks > most)
         return most;
     return ticks > 0 ? ticks : 1;
 }
 
-static uint32_t next_run(struct driver *driver, uint32_t runs_left, uint32_t ticks_left)
+struct driver generate_driver(struct dice *dice, const struct card *card)
+{
+    struct driver driver = {
+        .dice = dice,
+        .card = *card,
+        .state = model_fresh_state(),
+        .record = {.mode = MODE_PRE, .lever = 1, .flags = FLAG_CAB_ON, .band = BRAKES_RELEASED},
+        .phase = STANDING,
+    };
+
+    driver.record.code = dice_roll(dice, CODE_CLEAR + 1);
+    driver.carelessness = dice_between(dice, 1, 6) * dice_between(dice, 1, 6);
+    return driver;
+}
+
+uint32_t generate_run(struct driver *driver, uint32_t mean, uint32_t most)
 {
     if (dice_once_in(driver->dice, 10))
         driver->phase = dice_roll(driver->dice, PHASES);
@@ -279,12 +260,7 @@ static uint32_t next_run(struct driver *driver, uint32_t runs_left, uint32_t tic
     choose_buttons(driver);
     choose_switches(driver);
     choose_speed(driver);
-
-    uint32_t ticks = choose_ticks(driver, runs_left, ticks_left);
-
-    for (uint32_t left = ticks; left > 0; left--)
-        model_tick(&driver->card, &driver->state, &driver->record, driver->answer);
-    return ticks;
+    return choose_ticks(driver, mean, most);
 }
 
 static void write_header(uint8_t *place, uint32_t cards, uint32_t runs)
@@ -298,57 +274,35 @@ static void write_header(uint8_t *place, uint32_t cards, uint32_t runs)
     write_half(place + 8, runs_offset + RUN_BYTES * runs);
 }
 
-static void write_card(uint8_t *place, const struct card *card)
+/* Writes the next run, plays it and gives its ticks: one is left for each later run, and the last takes the rest. */
+static uint32_t write_run(uint8_t *place, struct driver *driver, uint32_t runs_left, uint32_t ticks_left)
 {
-    write_half(place, card->design);
-    write_half(place + 2, card->set);
-    write_half(place + 4, card->highest);
-    write_half(place + 6, card->pos_ceiling);
-    write_half(place + 8, card->zav_ceiling);
-    write_half(place + 10, card->tolerance);
-    write_half(place + 12, card->stop_target);
-    write_half(place + 14, card->deceleration);
-    write_half(place + 16, card->cycle);
-    write_half(place + 18, card->wait);
-}
+    uint32_t most = ticks_left - (runs_left - 1);
+    uint32_t ticks = generate_run(driver, ticks_left / runs_left, most);
 
-static void write_run(uint8_t *place, uint32_t ticks, const struct record *record)
-{
+    if (runs_left == 1)
+        ticks = most;
     write_half(place, ticks);
-    write_half(place + 2, record->speed);
-    place[4] = record->code;
-    place[5] = record->mode;
-    place[6] = record->lever;
-    place[7] = record->flags;
-    place[8] = record->band;
-    place[9] = record->sense;
+    model_write_record(place + RECORD_IN_RUN, &driver->record);
+    for (uint32_t left = ticks; left > 0; left--)
+        model_tick(&driver->card, &driver->state, &driver->record, driver->answer);
+    return ticks;
 }
 
 size_t generate_exercise(struct dice *dice, uint32_t cards, uint32_t runs, uint32_t ticks, uint8_t *exercise)
 {
-    struct driver driver = {
-        .dice = dice,
-        .card = make_card(dice),
-        .state = model_fresh_state(),
-        .record = {.mode = MODE_PRE, .lever = 1, .flags = FLAG_CAB_ON, .band = BRAKES_RELEASED},
-        .phase = STANDING,
-    };
-    uint32_t drivers_card = dice_roll(dice, cards + 1); /* sometimes the driver knows none of the cards */
+    struct card known = generate_card(dice);
+    uint32_t number = dice_roll(dice, cards + 1); /* of the known card; sometimes the driver knows none of them */
+    struct driver driver = generate_driver(dice, &known);
     uint8_t *place = exercise + HEADER_BYTES;
 
-    driver.record.code = dice_roll(dice, CODE_CLEAR + 1);
-    driver.carelessness = between(dice, 1, 6) * between(dice, 1, 6);
     write_header(exercise, cards, runs);
     for (uint32_t i = 0; i < cards; i++, place += CARD_BYTES) {
-        struct card card = i == drivers_card ? driver.card : make_card(dice);
+        struct card card = i == number ? known : generate_card(dice);
 
-        write_card(place, &card);
+        model_write_card(place, &card);
     }
-    for (; runs > 0; runs--, place += RUN_BYTES) {
-        uint32_t taken = next_run(&driver, runs, ticks);
-
-        write_run(place, taken, &driver.record);
-        ticks -= taken;
-    }
+    for (; runs > 0; runs--, place += RUN_BYTES)
+        ticks -= write_run(place, &driver, runs, ticks);
     return place - exercise;
 }

@@ -17,9 +17,7 @@
 
 enum { CALL_TICK = 1, CALL_STEP_BACK = 2, CALL_RESTART = 3 };
 
-enum { REFUSED_SPEED = 1, REFUSED_FULL = 7, REFUSED_BACK = 8 };
-
-enum { RECORD_BYTES = 8, LONGEST_PATH = 4096 };
+enum { LONGEST_PATH = 4096 };
 
 static const struct card card = {
     .design = 1600,
@@ -39,12 +37,10 @@ static const float too_fast = 69.5f; /* m/s: 2,502 tenths of km/h */
 /* A drive on its way: what has been written of it, and the desk that it leads to. */
 static FILE *script, *text;
 static struct dice dice;
-static uint32_t capacity;
 static struct record record; /* of the tick that was handed over last, accepted or not */
-static struct record records[FOLDHARBOR_MOST_TICKS];
-static uint32_t ticks; /* (n) */
-static struct state state;
-static uint8_t answer[FOLDHARBOR_ANSWER_BYTES]; /* of the last tick that survives */
+static struct desk desk;
+static uint8_t journal[FOLDHARBOR_JOURNAL_BYTES + RECORD_BYTES];
+static uint32_t journal_length;
 
 static FILE *create(const char *folder, uint32_t length, const char *ending)
 {
@@ -87,65 +83,46 @@ static void put_float(float value)
     put_half(bits >> 16);
 }
 
-/* A tick with the record, at another speed maybe. */
-static void put_tick(float speed)
+static void put_sample(const struct sample *sample)
 {
-    static const float pressure[] = {2.0f, 4.0f, 5.0f}; /* bar, one of each band */
-
-    put_byte(CALL_TICK);
-    put_float(speed);
-    put_float(pressure[record.band]);
-    put_byte(record.code);
-    put_byte(record.mode);
-    put_byte(record.lever);
-    put_byte(record.flags);
-    put_byte(record.sense);
+    put_float(sample->speed);
+    put_float(sample->pressure);
+    put_byte(sample->code);
+    put_byte(sample->mode);
+    put_byte(sample->lever);
+    put_byte(sample->flags);
+    put_byte(sample->sense);
 }
 
-static void want_line(uint32_t refusal, const uint8_t *shown)
+/* Goes on with the outcome's desk and gives the refusal; the line is what has to be printed of it. */
+static uint32_t go_on(struct outcome outcome)
 {
-    fprintf(text, "%u %u %u %u %u %u %u %u\n", (unsigned)refusal, (unsigned)ticks, (unsigned)read_half(shown),
-            (unsigned)read_half(shown + 2), shown[4], shown[5], shown[6], shown[7]);
-}
+    const uint8_t *answer = outcome.answer;
 
-static void want_refusal(uint32_t number)
-{
-    static const uint8_t zeros[FOLDHARBOR_ANSWER_BYTES];
-
-    want_line(number, zeros);
+    desk = outcome.desk;
+    fprintf(text, "%u %u %u %u %u %u %u %u\n", (unsigned)outcome.refusal, (unsigned)desk.ticks,
+            (unsigned)read_half(answer), (unsigned)read_half(answer + 2), answer[4], answer[5], answer[6], answer[7]);
+    return outcome.refusal;
 }
 
 static void want_records(void)
 {
-    for (uint32_t i = 0; i < ticks; i++) {
-        const struct record *held = &records[i];
+    for (uint32_t i = 0; i < desk.ticks; i++) {
+        const uint8_t *held = journal + RECORD_BYTES * i;
 
-        fprintf(text, "%02x %02x %02x %02x %02x %02x %02x %02x\n", (unsigned)(held->speed % 256),
-                (unsigned)(held->speed / 256), (unsigned)held->code, (unsigned)held->mode, (unsigned)held->lever,
-                (unsigned)held->flags, (unsigned)held->band, (unsigned)held->sense);
+        fprintf(text, "%02x %02x %02x %02x %02x %02x %02x %02x\n", held[0], held[1], held[2], held[3], held[4], held[5],
+                held[6], held[7]);
     }
 }
 
-/* The desk after the first so many records. */
-static void rebuild(uint32_t count)
+static void open_desk(void)
 {
-    state = model_fresh_state();
-    memset(answer, 0, sizeof answer);
-    for (ticks = 0; ticks < count; ticks++)
-        model_tick(&card, &state, &records[ticks], answer);
-}
+    uint8_t bytes[CARD_BYTES];
 
-static void open_desk(uint32_t length)
-{
-    const uint32_t fields[] = {card.design,    card.set,         card.highest,      card.pos_ceiling, card.zav_ceiling,
-                               card.tolerance, card.stop_target, card.deceleration, card.cycle,       card.wait};
-
-    for (size_t i = 0; i < sizeof fields / sizeof *fields; i++)
-        put_half(fields[i]);
-    put_half(length);
-    capacity = length / RECORD_BYTES < FOLDHARBOR_MOST_TICKS ? length / RECORD_BYTES : FOLDHARBOR_MOST_TICKS;
-    rebuild(0);
-    want_line(0, answer);
+    model_write_card(bytes, &card);
+    fwrite(bytes, 1, sizeof bytes, script);
+    put_half(journal_length);
+    go_on(model_desk_open(card));
 }
 
 static void change_record(void)
@@ -166,50 +143,48 @@ static void change_record(void)
         record.sense = dice_roll(&dice, 3);
 }
 
-static void tick(void)
+/* A tick with the record, at another speed maybe. */
+static uint32_t tick_at(float speed)
 {
-    change_record();
-    put_tick((float)record.speed / 36);
-    if (ticks >= capacity) {
-        want_refusal(REFUSED_FULL);
-        return;
-    }
-    records[ticks++] = record;
-    model_tick(&card, &state, &record, answer);
-    want_line(0, answer);
+    static const float pressure[] = {2.0f, 4.0f, 5.0f}; /* bar, one of each band */
+    struct sample sample = {
+        .speed = speed,
+        .pressure = pressure[record.band],
+        .code = record.code,
+        .mode = record.mode,
+        .lever = record.lever,
+        .flags = record.flags,
+        .sense = record.sense,
+    };
+
+    put_byte(CALL_TICK);
+    put_sample(&sample);
+    return go_on(model_desk_tick(desk, sample, journal, journal_length));
 }
 
-/* A full journal is found before a speed out of range is. */
-static void tick_too_fast(void)
+static uint32_t tick(void)
 {
-    put_tick(too_fast);
-    want_refusal(ticks >= capacity ? REFUSED_FULL : REFUSED_SPEED);
+    change_record();
+    return tick_at((float)record.speed / 36);
 }
 
 static void step_back(uint32_t count)
 {
     put_byte(CALL_STEP_BACK);
     put_half(count);
-    if (count > ticks) {
-        want_refusal(REFUSED_BACK);
-        return;
-    }
-    rebuild(ticks - count);
-    want_line(0, answer);
+    go_on(model_desk_step_back(desk, count, journal, journal_length));
 }
 
 static void restart(void)
 {
     put_byte(CALL_RESTART);
-    rebuild(0);
-    want_line(0, answer);
+    go_on(model_desk_restart(desk));
 }
 
 static void fill_and_one_more(void)
 {
-    while (ticks < capacity)
-        tick();
-    tick();
+    while (tick() == 0)
+        ;
 }
 
 static void write_drive(const char *folder, uint32_t length)
@@ -218,14 +193,18 @@ static void write_drive(const char *folder, uint32_t length)
     text = create(folder, length, "txt");
     dice.state = length;
     record = (struct record){.mode = MODE_PRE};
+    journal_length = length;
 
-    open_desk(length);
+    open_desk();
     fill_and_one_more();
-    tick_too_fast();
+
+    uint32_t capacity = desk.ticks;
+
+    tick_at(too_fast); /* a full journal is found before a speed out of range is */
     step_back(0);
     step_back(capacity + 1);
     step_back(1);
-    tick_too_fast();
+    tick_at(too_fast);
     fill_and_one_more();
     step_back(capacity / 2);
     fill_and_one_more();
@@ -243,14 +222,12 @@ static void write_drive(const char *folder, uint32_t length)
 
 int main(int count, char **arguments)
 {
-    const uint32_t full = RECORD_BYTES * FOLDHARBOR_MOST_TICKS;
-
     if (count != 2) {
         fprintf(stderr, "usage: long FOLDER, where the scripts and their texts are to go\n");
         return 2;
     }
-    write_drive(arguments[1], full - 1);
-    write_drive(arguments[1], full);
-    write_drive(arguments[1], full + RECORD_BYTES);
+    write_drive(arguments[1], FOLDHARBOR_JOURNAL_BYTES - 1);
+    write_drive(arguments[1], FOLDHARBOR_JOURNAL_BYTES);
+    write_drive(arguments[1], FOLDHARBOR_JOURNAL_BYTES + RECORD_BYTES);
     return 0;
 }

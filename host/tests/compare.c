@@ -1,9 +1,10 @@
 /*
- * Compares the call with the model on generated exercises: good, damaged, cut and lengthened ones.
+ * Compares the calls that run and read an exercise with the model on generated exercises: good, damaged, cut and
+ * lengthened ones.
  *
  *   compare [SEED [COUNT]]
  *
- * The call gets a copy of the file with other bytes behind its end than the model sees, so that a result that
+ * A call gets a copy of the file with other bytes behind its end than the model sees, so that a result that
  * depends on bytes out of the file shows. Both buffers are filled with sentinels and compared whole.
  */
 #include <inttypes.h>
@@ -40,7 +41,8 @@ static bool exercise_differs;
 
 /* How often each thing was seen in what was compared. */
 static uint64_t refusals_seen[16]; /* by number; 0 counts what was accepted */
-static uint64_t marks_seen[256];   /* by the whole byte of an answer */
+static uint64_t reader_refusals_seen[UINT8_MAX + 1];
+static uint64_t marks_seen[256]; /* by the whole byte of an answer */
 static uint64_t causes_seen[256];
 static uint64_t lowest_seen[256];
 static uint64_t modes_seen[MODE_ZAV + 1];   /* ticks in the mode that the desk held */
@@ -110,7 +112,7 @@ static bool report_bit(const char *what, const uint64_t seen[256], uint32_t bit)
 
 static bool report_all_seen(void)
 {
-    const uint32_t prompt_and_kind = FOLDHARBOR_ONE_TIME_PROMPT | FOLDHARBOR_ONE_TIME_KIND;
+    const uint32_t prompt_and_kind = FOLDHARBOR_MARK_ONE_TIME_PROMPT | FOLDHARBOR_MARK_ONE_TIME_KIND;
     bool all = true;
 
     printf("seen in what was compared, calls:\n");
@@ -121,6 +123,12 @@ static bool report_all_seen(void)
     all &= report_seen("refused 11", refusals_seen[11]);
     all &= report_seen("refused 12", refusals_seen[12]);
     all &= report_seen("refused 13", refusals_seen[13]);
+    printf("exercises read:\n");
+    all &= report_seen("accepted", reader_refusals_seen[0]);
+    all &= report_seen("refused 4", reader_refusals_seen[4]);
+    all &= report_seen("refused 9", reader_refusals_seen[9]);
+    all &= report_seen("refused 10", reader_refusals_seen[10]);
+    all &= report_seen("refused 11", reader_refusals_seen[11]);
     printf("ticks:\n");
     all &= report_seen("mode POS", modes_seen[MODE_POS]);
     all &= report_seen("mode PRE", modes_seen[MODE_PRE]);
@@ -131,12 +139,12 @@ static bool report_all_seen(void)
     all &= report_seen("code Warning", codes_seen[CODE_WARNING]);
     all &= report_seen("code 40 and warning", codes_seen[CODE_FORTY]);
     all &= report_seen("code Clear", codes_seen[CODE_CLEAR]);
-    all &= report_bit("MAN", marks_seen, FOLDHARBOR_MAN);
-    all &= report_bit("curve", marks_seen, FOLDHARBOR_CURVE);
-    all &= report_bit("cyclic prompt", marks_seen, FOLDHARBOR_CYCLIC_PROMPT);
-    all &= report_seen("one-time prompt kind 0", with_bits(marks_seen, prompt_and_kind, FOLDHARBOR_ONE_TIME_PROMPT));
+    all &= report_bit("MAN", marks_seen, FOLDHARBOR_MARK_MAN);
+    all &= report_bit("curve", marks_seen, FOLDHARBOR_MARK_CURVE);
+    all &= report_bit("cyclic prompt", marks_seen, FOLDHARBOR_MARK_CYCLIC_PROMPT);
+    all &= report_seen("one-time prompt kind 0", with_bits(marks_seen, prompt_and_kind, FOLDHARBOR_MARK_ONE_TIME_PROMPT));
     all &= report_seen("one-time prompt kind 1", with_bits(marks_seen, prompt_and_kind, prompt_and_kind));
-    all &= report_bit("ZS20", marks_seen, FOLDHARBOR_ZS20);
+    all &= report_bit("ZS20", marks_seen, FOLDHARBOR_MARK_ZS20);
     all &= report_bit("NZ1", causes_seen, FOLDHARBOR_NZ1);
     all &= report_bit("NZ2", causes_seen, FOLDHARBOR_NZ2);
     all &= report_bit("NZ3", causes_seen, FOLDHARBOR_NZ3);
@@ -214,10 +222,15 @@ static struct dice dice_of_exercise(void)
     return (struct dice){seed * 0xD1342543DE82EF95u + exercises};
 }
 
-static void compare_call(uint32_t card, size_t answers_length)
+static void hand_exercise_to_call(void)
 {
     memcpy(exercise_of_call, exercise, exercise_length);
     memset(exercise_of_call + exercise_length, 255, SENTINELS);
+}
+
+static void compare_call(uint32_t card, size_t answers_length)
+{
+    hand_exercise_to_call();
     memcpy(answers_of_call, sentinels, ANSWERS_AREA);
     memcpy(answers_of_model, sentinels, ANSWERS_AREA);
 
@@ -235,6 +248,35 @@ static void compare_call(uint32_t card, size_t answers_length)
     }
     if (different == 0 && !exercise_differs)
         print_difference(card, answers_length, by_call, by_model);
+    exercise_differs = true;
+}
+
+static void print_counts(const char *whose, uint32_t refusal, uint32_t cards, uint32_t runs, uint32_t ticks)
+{
+    printf("  %-6s refusal %" PRIu32 ", cards %" PRIu32 ", runs %" PRIu32 ", ticks %" PRIu32 "\n", whose, refusal,
+           cards, runs, ticks);
+}
+
+static void compare_reader(void)
+{
+    struct exercise_counts by_model;
+    uint32_t refusal = model_read_exercise(exercise, exercise_length, &by_model);
+
+    hand_exercise_to_call();
+
+    foldharbor_counts by_call = foldharbor_read_exercise(exercise_of_call, exercise_length);
+
+    if (by_call.refusal == refusal && by_call.cards == by_model.cards && by_call.runs == by_model.runs &&
+        by_call.ticks == by_model.ticks && memcmp(exercise_of_call, exercise, exercise_length) == 0) {
+        reader_refusals_seen[by_call.refusal]++;
+        return;
+    }
+    if (different == 0 && !exercise_differs) {
+        printf("first difference: seed %" PRIu64 ", exercise %" PRIu64 " of %zu bytes, read\n", seed, exercises,
+               exercise_length);
+        print_counts("call", by_call.refusal, by_call.cards, by_call.runs, by_call.ticks);
+        print_counts("model", refusal, by_model.cards, by_model.runs, by_model.ticks);
+    }
     exercise_differs = true;
 }
 
@@ -271,6 +313,7 @@ static void compare_every_way(void)
     const uint32_t numbers[] = {0, 1, cards, cards + 1, UINT32_MAX, (1u << 8) + 1, (1u << 16) + 1};
     const size_t lengths[] = {least, one_less(least), 0, least + 1, least + 9, LONGEST_BUFFER};
 
+    compare_reader();
     for (size_t i = 0; i < sizeof numbers / sizeof numbers[0]; i++)
         for (size_t j = 0; j < sizeof lengths / sizeof lengths[0]; j++)
             compare_call(numbers[i], lengths[j]);
@@ -297,6 +340,7 @@ static void compare_some_ways(struct dice *dice)
     size_t least = least_buffer();
     uint32_t card = 1 + dice_roll(dice, cards > 0 ? cards : 1);
 
+    compare_reader();
     compare_call(card, least);
     compare_call(card, some_length(dice, least));
     card = some_number(dice, cards);

@@ -343,17 +343,17 @@ static void write_answer(const struct tick *tick, const struct state *state, uin
     uint32_t marks = 0;
 
     if (signal->man_speed > 0)
-        marks |= FOLDHARBOR_MAN;
+        marks |= FOLDHARBOR_MARK_MAN;
     if (signal->curve_start > 0)
-        marks |= FOLDHARBOR_CURVE;
+        marks |= FOLDHARBOR_MARK_CURVE;
     if (tick->cyclic_prompt)
-        marks |= FOLDHARBOR_CYCLIC_PROMPT;
+        marks |= FOLDHARBOR_MARK_CYCLIC_PROMPT;
     if (signal->prompt > 0)
-        marks |= FOLDHARBOR_ONE_TIME_PROMPT;
+        marks |= FOLDHARBOR_MARK_ONE_TIME_PROMPT;
     if (signal->prompt_kind == 1)
-        marks |= FOLDHARBOR_ONE_TIME_KIND;
+        marks |= FOLDHARBOR_MARK_ONE_TIME_KIND;
     if (tick->zs20)
-        marks |= FOLDHARBOR_ZS20;
+        marks |= FOLDHARBOR_MARK_ZS20;
 
     write_half(answer, tick->permitted);
     write_half(answer + 2, tick->target);
@@ -476,7 +476,6 @@ static bool record_in_range(const struct record *record)
 
 enum {
     FRACTION_BITS = 23,
-    LEAST_EXPONENT = 1,      /* a float with exponent 0 is worth as much, without the leading one */
     EXPONENT_OF_WHOLES = 150 /* with it a float is its significand, a whole number */
 };
 
@@ -501,15 +500,9 @@ static bool read_speed(float reading, uint32_t *speed)
     if (bits >= speed_128)
         return false;
 
-    uint64_t significand = bits & ((1u << FRACTION_BITS) - 1);
-    uint32_t exponent = bits >> FRACTION_BITS;
-
-    if (exponent == 0)
-        exponent = LEAST_EXPONENT;
-    else
-        significand |= 1u << FRACTION_BITS;
-
-    uint32_t halvings = EXPONENT_OF_WHOLES - exponent; /* at least 17 of them make the reading of the significand */
+    /* The reading is the significand, halved so often. The least floats have no leading one, but read as 0 anyway. */
+    uint64_t significand = (bits & ((1u << FRACTION_BITS) - 1)) | 1u << FRACTION_BITS;
+    uint32_t halvings = EXPONENT_OF_WHOLES - (bits >> FRACTION_BITS);
 
     /* The floor of 36x + 1/2. 72 times a significand is below 2^31, so after 31 halvings 36x is below 1/2. */
     *speed = halvings < 31 ? (72 * significand + (1u << halvings)) >> (halvings + 1) : 0;
@@ -662,9 +655,8 @@ static uint32_t read_header(const uint8_t *exercise, size_t exercise_length, str
     uint32_t runs_offset = HEADER_BYTES + CARD_BYTES * counts->cards;
     uint32_t total = runs_offset + RUN_BYTES * counts->runs;
 
-    if (!within(1, counts->cards, MOST_CARDS) || counts->runs > MOST_RUNS ||
-        read_half(exercise + 4) != HEADER_BYTES || read_half(exercise + 6) != runs_offset ||
-        read_half(exercise + 8) != total || exercise_length != total)
+    if (!within(1, counts->cards, MOST_CARDS) || counts->runs > MOST_RUNS || read_half(exercise + 4) != HEADER_BYTES ||
+        read_half(exercise + 6) != runs_offset || read_half(exercise + 8) != total || exercise_length != total)
         return FOLDHARBOR_BAD_FILE;
     return 0;
 }

@@ -26,4 +26,23 @@ static inline bool dice_once_in(struct dice *dice, uint32_t sides)
     return dice_roll(dice, sides) == 0;
 }
 
+/* A number of the range, which is not the range of all numbers. */
+static inline uint32_t dice_between(struct dice *dice, uint32_t least, uint32_t most)
+{
+    return least + dice_roll(dice, most - least + 1);
+}
+
+/* The same, with the ends more often than by chance. */
+static inline uint32_t dice_between_or_end(struct dice *dice, uint32_t least, uint32_t most)
+{
+    switch (dice_roll(dice, 16)) {
+    case 0:
+        return least;
+    case 1:
+        return most;
+    default:
+        return dice_between(dice, least, most);
+    }
+}
+
 #endif

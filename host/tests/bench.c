@@ -1,0 +1,213 @@
+/*
+ * Measures the calls against the model in one process, on the same exercises and on the same drive.
+ * The two take turns and the best turn of each counts, so that other work on the machine weighs on neither.
+ */
+#define _POSIX_C_SOURCE 200809L
+#include <stdbool.h>
+#include <stdio.h>
+#include <string.h>
+#include <time.h>
+
+#include "bytes.h"
+#include "fields.h"
+#include "foldharbor.h"
+#include "generate.h"
+#include "model.h"
+
+enum {
+    SEED = 7200,
+    MANY_RUNS = 2000,
+    DRIVE_TICKS = 7000,
+    STRUCK = 10, /* ticks, by the step back */
+    TURNS = 400,
+    CALLS_A_TURN = 4,
+    READER_CALLS_A_TURN = 40 /* reading takes far less than running */
+};
+
+typedef void work(void);
+
+static uint8_t exercise[FOLDHARBOR_MOST_BYTES];
+static size_t exercise_length;
+static uint8_t answers_of_call[FOLDHARBOR_ANSWER_BYTES * FOLDHARBOR_MOST_TICKS];
+static uint8_t answers_of_model[FOLDHARBOR_ANSWER_BYTES * FOLDHARBOR_MOST_TICKS];
+static uint32_t returned_by_call, returned_by_model;
+
+/* A drive, the same for both. */
+static struct card card;
+static foldharbor_sample samples[DRIVE_TICKS];
+static struct sample samples_of_model[DRIVE_TICKS];
+static uint8_t journal_of_call[FOLDHARBOR_JOURNAL_BYTES];
+static uint8_t journal_of_model[FOLDHARBOR_JOURNAL_BYTES];
+static foldharbor_outcome driven_by_call, stepped_back_by_call;
+static struct outcome driven_by_model, stepped_back_by_model;
+
+static double now(void)
+{
+    struct timespec time;
+
+    clock_gettime(CLOCK_MONOTONIC, &time);
+    return time.tv_sec * 1e9 + time.tv_nsec;
+}
+
+static double turn(work *once, int times)
+{
+    double start = now();
+
+    for (int i = 0; i < times; i++)
+        once();
+    return (now() - start) / times;
+}
+
+static void measure(const char *what, work *of_call, work *of_model, int times, double units)
+{
+    double best_of_call = 1e18, best_of_model = 1e18;
+
+    for (int i = 0; i < TURNS; i++) {
+        double call = turn(of_call, times);
+        double model = turn(of_model, times);
+
+        best_of_call = call < best_of_call ? call : best_of_call;
+        best_of_model = model < best_of_model ? model : best_of_model;
+    }
+    printf("%-46s call %7.2f ns   model %7.2f ns   ratio %5.2f\n", what, best_of_call / units, best_of_model / units,
+           best_of_call / best_of_model);
+}
+
+static void run_by_call(void)
+{
+    returned_by_call = foldharbor_run_exercise(exercise, exercise_length, 1, answers_of_call, sizeof answers_of_call);
+}
+
+static void run_by_model(void)
+{
+    returned_by_model = model_run_exercise(exercise, exercise_length, 1, answers_of_model, sizeof answers_of_model);
+}
+
+/* Without room for an answer the exercise is read and not run. */
+static void read_by_call(void)
+{
+    returned_by_call = foldharbor_run_exercise(exercise, exercise_length, 1, answers_of_call, 0);
+}
+
+static void read_by_model(void)
+{
+    returned_by_model = model_run_exercise(exercise, exercise_length, 1, answers_of_model, 0);
+}
+
+/* Times of calls that do different work say nothing, so the results are compared first. */
+static bool same_runs(void)
+{
+    run_by_call();
+    run_by_model();
+    return returned_by_call == FOLDHARBOR_MOST_TICKS && returned_by_model == returned_by_call &&
+           memcmp(answers_of_call, answers_of_model, sizeof answers_of_call) == 0;
+}
+
+static void make_exercise(uint32_t runs, uint32_t ticks)
+{
+    struct dice dice = {SEED};
+
+    exercise_length = generate_exercise(&dice, 1, runs, ticks, exercise);
+}
+
+/* PRE is taken at a stand only, so one run in PRE stands throughout: a curve, then a stand too long. */
+static void make_one_run(void)
+{
+    static const uint8_t record[] = {0, 0, CODE_STOP, MODE_PRE, 1, FLAG_CAB_ON, BRAKES_RELEASED, 0};
+
+    make_exercise(1, FOLDHARBOR_MOST_TICKS);
+    memcpy(exercise + HEADER_BYTES + CARD_BYTES + RECORD_IN_RUN, record, sizeof record);
+}
+
+static void drive_by_call(void)
+{
+    foldharbor_outcome out = foldharbor_open(card_of_model(&card));
+
+    for (uint32_t i = 0; i < DRIVE_TICKS; i++)
+        out = foldharbor_tick(out.desk, samples[i], journal_of_call, sizeof journal_of_call);
+    driven_by_call = out;
+}
+
+static void drive_by_model(void)
+{
+    struct outcome out = model_desk_open(card);
+
+    for (uint32_t i = 0; i < DRIVE_TICKS; i++)
+        out = model_desk_tick(out.desk, samples_of_model[i], journal_of_model, sizeof journal_of_model);
+    driven_by_model = out;
+}
+
+static void step_back_by_call(void)
+{
+    stepped_back_by_call = foldharbor_step_back(driven_by_call.desk, STRUCK, journal_of_call, sizeof journal_of_call);
+}
+
+static void step_back_by_model(void)
+{
+    stepped_back_by_model =
+        model_desk_step_back(driven_by_model.desk, STRUCK, journal_of_model, sizeof journal_of_model);
+}
+
+static foldharbor_sample sample_of(const uint8_t *record)
+{
+    static const float pressure[] = {2.0f, 4.0f, 5.0f}; /* bar, one of each band */
+
+    return (foldharbor_sample){
+        .speed = (float)read_half(record) / 36,
+        .pressure = pressure[record[6]],
+        .code = record[2],
+        .mode = record[3],
+        .lever = record[4],
+        .flags = record[5],
+        .sense = record[7],
+    };
+}
+
+/* The drive of an exercise: its first card, and a sample for each tick of its runs. */
+static void make_drive(void)
+{
+    const uint8_t *run = exercise + HEADER_BYTES + CARD_BYTES;
+
+    make_exercise(MANY_RUNS, DRIVE_TICKS);
+    card = model_read_card(exercise + HEADER_BYTES);
+    for (uint32_t made = 0; made < DRIVE_TICKS; run += RUN_BYTES) {
+        for (uint32_t left = read_half(run); left > 0; left--, made++) {
+            samples[made] = sample_of(run + RECORD_IN_RUN);
+            samples_of_model[made] = model_of_sample(&samples[made]);
+        }
+    }
+}
+
+static bool same_drives(void)
+{
+    drive_by_call();
+    drive_by_model();
+    step_back_by_call();
+    step_back_by_model();
+    return driven_by_call.desk.n == DRIVE_TICKS && !compare_outcomes(&driven_by_call, &driven_by_model).name &&
+           !compare_outcomes(&stepped_back_by_call, &stepped_back_by_model).name &&
+           memcmp(journal_of_call, journal_of_model, sizeof journal_of_call) == 0;
+}
+
+int main(void)
+{
+#ifdef EMULATED
+    printf("Under an emulator: the times say nothing, only the ratios mean anything.\n");
+#endif
+    make_exercise(MANY_RUNS, FOLDHARBOR_MOST_TICKS);
+    if (!same_runs())
+        return 1;
+    measure("7,200 ticks in 2,000 runs, a tick:", run_by_call, run_by_model, CALLS_A_TURN, FOLDHARBOR_MOST_TICKS);
+    measure("the reader alone on 2,000 runs, a run:", read_by_call, read_by_model, READER_CALLS_A_TURN, MANY_RUNS);
+    make_one_run();
+    if (!same_runs())
+        return 1;
+    measure("7,200 ticks in one run, a tick:", run_by_call, run_by_model, CALLS_A_TURN, FOLDHARBOR_MOST_TICKS);
+    make_drive();
+    if (!same_drives())
+        return 1;
+    measure("a drive of 7,000 ticks, a tick:", drive_by_call, drive_by_model, CALLS_A_TURN, DRIVE_TICKS);
+    measure("a step back by 10 from there, a tick left:", step_back_by_call, step_back_by_model, CALLS_A_TURN,
+            DRIVE_TICKS - STRUCK);
+    return 0;
+}

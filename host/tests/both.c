@@ -1,0 +1,354 @@
+/* See both.h. */
+#include "both.h"
+
+#include <inttypes.h>
+#include <stdio.h>
+#include <string.h>
+
+#include "fields.h"
+#include "model.h"
+#include "some.h"
+
+enum {
+    SENTINELS = 63, /* before and behind a journal; odd, so that no journal starts aligned */
+    SENTINEL_OF_CALL = 0xFF,
+    SENTINEL_OF_MODEL = 0xA5
+};
+
+enum call { OPEN, TICK, STEP_BACK, RESTART, CALLS };
+
+/* What was handed over last, for the message of a difference. */
+struct handed {
+    enum call call;
+    foldharbor_desk desk; /* of an opening its card alone */
+    foldharbor_sample sample;
+    uint32_t count;
+    size_t journal_length;
+};
+
+static const char *const call_names[CALLS] = {"open", "tick", "step back", "restart"};
+
+static uint8_t area_of_call[SENTINELS + LONGEST_JOURNAL + SENTINELS];
+static uint8_t area_of_model[SENTINELS + LONGEST_JOURNAL + SENTINELS];
+static uint8_t *const journal_of_call = area_of_call + SENTINELS;
+static uint8_t *const journal_of_model = area_of_model + SENTINELS;
+static uint8_t kept[LONGEST_JOURNAL]; /* what both journals have to hold */
+static size_t laid;                   /* their length */
+
+static struct handed handed;
+static uint64_t calls, different;
+
+/* How often each thing was seen in what was compared. */
+static uint64_t refusals_seen[CALLS][UINT8_MAX + 1]; /* by number; 0 counts what was accepted */
+static uint64_t marks_seen[UINT8_MAX + 1];           /* by the whole byte of an answer */
+static uint64_t causes_seen[UINT8_MAX + 1];
+static uint64_t lowest_seen[UINT8_MAX + 1];
+static uint64_t held_seen[UINT8_MAX + 1];
+static uint64_t modes_seen[UINT8_MAX + 1]; /* ticks in the mode that the desk held */
+static uint64_t codes_seen[UINT8_MAX + 1]; /* ticks under the code in PRE */
+
+static void print_desk(const foldharbor_desk *desk, size_t fields)
+{
+    printf("  desk handed in:");
+    for (size_t i = 0; i < fields; i++)
+        printf("%s %s %u", i % 6 == 0 ? "\n   " : ",", desk_fields[i].name, (unsigned)get_field(desk, &desk_fields[i]));
+    printf("\n");
+}
+
+static void print_sample(const foldharbor_sample *sample)
+{
+    printf("  sample: speed %.9g (bits %08" PRIx32 "), pressure %.9g (bits %08" PRIx32 "),\n", (double)sample->speed,
+           bits_of(sample->speed), (double)sample->pressure, bits_of(sample->pressure));
+    printf("    code %u, mode %u, lever %u, flags %u, sense %u\n", sample->code, sample->mode, sample->lever,
+           sample->flags, sample->sense);
+}
+
+static void print_handed(void)
+{
+    print_desk(&handed.desk, handed.call == OPEN ? CARD_FIELDS : DESK_FIELDS);
+    if (handed.call == TICK)
+        print_sample(&handed.sample);
+    if (handed.call == STEP_BACK)
+        printf("  by %" PRIu32 "\n", handed.count);
+    if (handed.call == TICK || handed.call == STEP_BACK)
+        printf("  journal of %zu bytes\n", handed.journal_length);
+}
+
+/* Counts a difference; true for the first, which is printed. */
+static bool first_difference(void)
+{
+    if (different++ > 0)
+        return false;
+    printf("first difference: call %" PRIu64 ", %s: ", calls, call_names[handed.call]);
+    return true;
+}
+
+static void report_outcome(const struct difference *difference)
+{
+    if (!first_difference())
+        return;
+    printf("%s is %" PRIu32 " by the call, %" PRIu32 " by the model\n", difference->name, difference->of_call,
+           difference->of_model);
+    print_handed();
+}
+
+static void report_journals(void)
+{
+    size_t at = 0;
+
+    if (!first_difference())
+        return;
+    while (journal_of_call[at] == kept[at] && journal_of_model[at] == kept[at])
+        at++;
+    printf("byte %zu of the journal is %u by the call, %u by the model, and has to be %u\n", at, journal_of_call[at],
+           journal_of_model[at], kept[at]);
+    print_handed();
+}
+
+void expect(bool fact, const char *what)
+{
+    if (fact || !first_difference())
+        return;
+    printf("%s\n", what);
+    print_handed();
+}
+
+static bool only(uint8_t byte, const uint8_t *bytes, size_t count)
+{
+    while (count > 0 && bytes[count - 1] == byte)
+        count--;
+    return count == 0;
+}
+
+static bool sentinels_stand(const uint8_t *area, uint8_t sentinel)
+{
+    return only(sentinel, area, SENTINELS) && only(sentinel, area + SENTINELS + laid, SENTINELS);
+}
+
+static void lay_sentinels(void)
+{
+    memset(area_of_call, SENTINEL_OF_CALL, SENTINELS);
+    memset(journal_of_call + laid, SENTINEL_OF_CALL, SENTINELS);
+    memset(area_of_model, SENTINEL_OF_MODEL, SENTINELS);
+    memset(journal_of_model + laid, SENTINEL_OF_MODEL, SENTINELS);
+}
+
+void lay_journal(size_t length, uint8_t byte)
+{
+    laid = length;
+    memset(kept, byte, length);
+    memset(journal_of_call, byte, length);
+    memset(journal_of_model, byte, length);
+    lay_sentinels();
+}
+
+void lay_record(uint32_t place, const uint8_t *record)
+{
+    size_t at = (size_t)RECORD_BYTES * place;
+
+    memcpy(kept + at, record, RECORD_BYTES);
+    memcpy(journal_of_call + at, record, RECORD_BYTES);
+    memcpy(journal_of_model + at, record, RECORD_BYTES);
+}
+
+const uint8_t *journal_record(uint32_t place)
+{
+    return journal_of_call + (size_t)RECORD_BYTES * place;
+}
+
+/* Only an accepted tick writes, and only its record: what the model wrote there the call has to have written too. */
+static void keep_record(const struct outcome *of_model)
+{
+    size_t at = (size_t)RECORD_BYTES * handed.desk.n;
+
+    if (handed.call == TICK && of_model->refusal == 0 && at + RECORD_BYTES <= laid)
+        memcpy(kept + at, journal_of_model + at, RECORD_BYTES);
+}
+
+static void compare_journals(const struct outcome *of_model)
+{
+    keep_record(of_model);
+    if (memcmp(journal_of_call, kept, laid) == 0 && memcmp(journal_of_model, kept, laid) == 0)
+        return;
+    report_journals();
+    memcpy(journal_of_call, kept, laid); /* one fault is one difference */
+    memcpy(journal_of_model, kept, laid);
+}
+
+static void compare_sentinels(void)
+{
+    bool stand = sentinels_stand(area_of_call, SENTINEL_OF_CALL) && sentinels_stand(area_of_model, SENTINEL_OF_MODEL);
+
+    expect(stand, "bytes before or behind a journal are not what they were");
+    if (!stand)
+        lay_sentinels();
+}
+
+static void tally(const foldharbor_outcome *outcome)
+{
+    refusals_seen[handed.call][outcome->refusal]++;
+    if (handed.call != TICK || outcome->refusal != 0)
+        return;
+    marks_seen[outcome->answer.marks]++;
+    causes_seen[outcome->answer.causes]++;
+    lowest_seen[outcome->answer.lowest]++;
+    held_seen[outcome->answer.held]++;
+    modes_seen[outcome->desk.state.mode]++;
+    if (outcome->desk.state.mode == MODE_PRE)
+        codes_seen[outcome->desk.state.signal.codes.last]++;
+}
+
+/* Zeros and the desk handed in, whatever the model says; of a refused opening a desk of zeros. */
+static void compare_refusal(const foldharbor_outcome *outcome)
+{
+    struct outcome wanted = {.refusal = outcome->refusal};
+
+    if (handed.call != OPEN)
+        wanted.desk = model_of_desk(&handed.desk);
+    expect(!compare_outcomes(outcome, &wanted).name, "a refusal gives back another desk, or an answer");
+}
+
+static foldharbor_outcome compare(foldharbor_outcome of_call, struct outcome of_model)
+{
+    struct difference difference = compare_outcomes(&of_call, &of_model);
+
+    calls++;
+    if (difference.name)
+        report_outcome(&difference);
+    else
+        tally(&of_call);
+    if (of_call.refusal != 0)
+        compare_refusal(&of_call);
+    if (handed.call == TICK || handed.call == STEP_BACK) {
+        compare_journals(&of_model);
+        compare_sentinels();
+    }
+    return of_call;
+}
+
+foldharbor_outcome both_open(foldharbor_card card)
+{
+    handed = (struct handed){.call = OPEN, .desk = {.card = card}};
+    return compare(foldharbor_open(card), model_desk_open(model_of_desk(&handed.desk).card));
+}
+
+foldharbor_outcome both_tick(foldharbor_desk desk, foldharbor_sample sample, size_t journal_length)
+{
+    handed = (struct handed){.call = TICK, .desk = desk, .sample = sample, .journal_length = journal_length};
+    return compare(foldharbor_tick(desk, sample, journal_of_call, journal_length),
+                   model_desk_tick(model_of_desk(&desk), model_of_sample(&sample), journal_of_model, journal_length));
+}
+
+foldharbor_outcome both_step_back(foldharbor_desk desk, uint32_t count, size_t journal_length)
+{
+    handed = (struct handed){.call = STEP_BACK, .desk = desk, .count = count, .journal_length = journal_length};
+    return compare(foldharbor_step_back(desk, count, journal_of_call, journal_length),
+                   model_desk_step_back(model_of_desk(&desk), count, journal_of_model, journal_length));
+}
+
+foldharbor_outcome both_restart(foldharbor_desk desk)
+{
+    handed = (struct handed){.call = RESTART, .desk = desk};
+    return compare(foldharbor_restart(desk), model_desk_restart(model_of_desk(&desk)));
+}
+
+uint64_t calls_made(void)
+{
+    return calls;
+}
+
+uint64_t differences(void)
+{
+    return different;
+}
+
+static bool report_seen(const char *what, uint64_t count)
+{
+    printf("  %-24s %12" PRIu64 "%s\n", what, count, count == 0 ? "  NEVER SEEN" : "");
+    return count > 0;
+}
+
+static bool report_refusals(enum call call)
+{
+    static const uint8_t numbers[CALLS][7] = { /* up to the first 0 */
+        [OPEN] = {4},
+        [TICK] = {5, 6, 7, 1, 2, 3},
+        [STEP_BACK] = {5, 6, 8, 9},
+        [RESTART] = {5},
+    };
+    bool all = true;
+    char what[32];
+
+    snprintf(what, sizeof what, "%s accepted", call_names[call]);
+    all &= report_seen(what, refusals_seen[call][0]);
+    for (const uint8_t *number = numbers[call]; *number != 0; number++) {
+        snprintf(what, sizeof what, "%s refused %u", call_names[call], *number);
+        all &= report_seen(what, refusals_seen[call][*number]);
+    }
+    return all;
+}
+
+static uint64_t with_bits(const uint64_t *seen, uint32_t mask, uint32_t wanted)
+{
+    uint64_t sum = 0;
+
+    for (uint32_t byte = 0; byte <= UINT8_MAX; byte++)
+        if ((byte & mask) == wanted)
+            sum += seen[byte];
+    return sum;
+}
+
+/* Names of the bytes from 0 on, or of bits from the lowest on; NULL for one that is not looked at. */
+static bool report_each(const char *const *names, size_t count, const uint64_t *seen)
+{
+    bool all = true;
+
+    for (size_t i = 0; i < count; i++)
+        if (names[i])
+            all &= report_seen(names[i], seen[i]);
+    return all;
+}
+
+static bool report_bits(const char *const *names, size_t count, const uint64_t *seen)
+{
+    bool all = true;
+
+    for (size_t i = 0; i < count; i++)
+        if (names[i])
+            all &= report_seen(names[i], with_bits(seen, 1u << i, 1u << i));
+    return all;
+}
+
+static bool report_answers(void)
+{
+    static const char *const modes[] = {NULL, "mode POS", "mode PRE", "mode VYL", "mode ZAV"};
+    static const char *const codes[] = {"code none", "code Stop", "code Warning", "code 40 and warning", "code Clear"};
+    static const char *const marks[] = {"MAN", "curve", "cyclic prompt", NULL, NULL, "ZS20"};
+    static const char *const causes[] = {"NZ1", "NZ2", "NZ3", "NZ4", "NZ5"};
+    static const char *const lowest[] = {NULL, "NZ1 lowest", "NZ2 lowest", "NZ3 lowest", "NZ4 lowest", "NZ5 lowest"};
+    static const char *const held[] = {"none held", "1 held", "2 held", "3 held", "4 held", "5 held"};
+    const uint32_t prompt = FOLDHARBOR_MARK_ONE_TIME_PROMPT, kind = FOLDHARBOR_MARK_ONE_TIME_KIND;
+    bool all = true;
+
+    all &= report_each(modes, sizeof modes / sizeof modes[0], modes_seen);
+    all &= report_each(codes, sizeof codes / sizeof codes[0], codes_seen);
+    all &= report_bits(marks, sizeof marks / sizeof marks[0], marks_seen);
+    all &= report_seen("one-time prompt kind 0", with_bits(marks_seen, prompt | kind, prompt));
+    all &= report_seen("one-time prompt kind 1", with_bits(marks_seen, prompt | kind, prompt | kind));
+    all &= report_bits(causes, sizeof causes / sizeof causes[0], causes_seen);
+    all &= report_each(lowest, sizeof lowest / sizeof lowest[0], lowest_seen);
+    all &= report_each(held, sizeof held / sizeof held[0], held_seen);
+    return all;
+}
+
+bool report_seen_in_calls(void)
+{
+    bool all = true;
+
+    printf("seen in what was compared, calls on a desk:\n");
+    for (enum call call = OPEN; call < CALLS; call++)
+        all &= report_refusals(call);
+    printf("accepted ticks:\n");
+    all &= report_answers();
+    return all;
+}

@@ -1,0 +1,428 @@
+/* See cases.h. */
+#include "cases.h"
+
+#include <string.h>
+
+#include "both.h"
+#include "bytes.h"
+#include "fields.h"
+#include "generate.h"
+#include "some.h"
+
+enum { /* by the rules */
+       REFUSED_SPEED = 1,
+       REFUSED_PRESSURE = 2,
+       REFUSED_DESK = 5,
+       REFUSED_SHORT = 6,
+       REFUSED_FULL = 7,
+       REFUSED_RECORD = 9
+};
+
+/* A journal full of records in range. */
+static void lay_some_journal(struct dice *dice, size_t length)
+{
+    lay_journal(length, dice_roll(dice, 256));
+    for (uint32_t place = 0; place < length / RECORD_BYTES; place++) {
+        struct record record = some_record(dice);
+        uint8_t bytes[RECORD_BYTES];
+
+        model_write_record(bytes, &record);
+        lay_record(place, bytes);
+    }
+}
+
+static void lay_bad_record(uint32_t place, uint32_t fault)
+{
+    uint8_t record[RECORD_BYTES];
+
+    memcpy(record, journal_record(place), sizeof record);
+    spoil_record(record, fault);
+    lay_record(place, record);
+}
+
+/* Readings: the first record shows how a float is read. */
+
+static uint32_t compare_speed(struct dice *dice, foldharbor_desk desk, float speed)
+{
+    foldharbor_sample sample = some_sample(dice);
+
+    sample.speed = speed;
+    return both_tick(desk, sample, RECORD_BYTES).refusal;
+}
+
+static uint32_t compare_pressure(struct dice *dice, foldharbor_desk desk, float pressure)
+{
+    foldharbor_sample sample = some_sample(dice);
+
+    sample.pressure = pressure;
+    return both_tick(desk, sample, RECORD_BYTES).refusal;
+}
+
+/* The float and its neighbours, with either sign. */
+static void compare_around(struct dice *dice, foldharbor_desk desk, float number)
+{
+    const uint32_t sign = 1u << 31;
+
+    for (uint32_t bits = bits_of(number) - 2; bits != bits_of(number) + 3; bits++) {
+        compare_speed(dice, desk, float_of(bits));
+        compare_speed(dice, desk, float_of(bits ^ sign));
+        compare_pressure(dice, desk, float_of(bits));
+        compare_pressure(dice, desk, float_of(bits ^ sign));
+    }
+}
+
+/* What some floats have to be read as: numbers that the rules name, and the last floats before a border. */
+static void compare_known_readings(struct dice *dice, foldharbor_desk desk)
+{
+    struct known {
+        float reading;
+        uint32_t value;
+    };
+    const float last_speed = float_of(bits_of(speed_border(MOST_SPEED + 1)) - 1);
+    const struct known speeds[] = {{-0.0f, 0}, {0.125f, 5}, {10, 360}, {69.4375f, 2500}, {last_speed, 2500}};
+    static const struct known bands[] = {{-0.0f, 0},         {0x1.bffffep1f, 0}, {3.5f, 1},
+                                         {0x1.1ffffep2f, 1}, {4.5f, 2},          {10, 2}};
+
+    for (size_t i = 0; i < sizeof speeds / sizeof speeds[0]; i++) {
+        compare_speed(dice, desk, speeds[i].reading);
+        expect(read_half(journal_record(0)) == speeds[i].value, "this speed has to be read as another number");
+    }
+    for (size_t i = 0; i < sizeof bands / sizeof bands[0]; i++) {
+        compare_pressure(dice, desk, bands[i].reading);
+        expect(journal_record(0)[6] == bands[i].value, "this pressure lies in another band");
+    }
+    expect(compare_speed(dice, desk, 69.5f) == REFUSED_SPEED, "this speed is too high");
+    expect(compare_speed(dice, desk, speed_border(MOST_SPEED + 1)) == REFUSED_SPEED, "this speed is too high");
+    expect(compare_pressure(dice, desk, 0x1.400002p3f) == REFUSED_PRESSURE, "this pressure is too high");
+}
+
+/* Each field of a record in its place. */
+static void compare_known_record(foldharbor_desk desk)
+{
+    static const foldharbor_sample sample = {
+        .speed = 10, .pressure = 5, .code = CODE_FORTY, .mode = MODE_ZAV, .lever = 0, .flags = 85, .sense = 1};
+    static const uint8_t record[RECORD_BYTES] = {360 % 256, 360 / 256, CODE_FORTY, MODE_ZAV, 0, 85, 2, 1};
+
+    both_tick(desk, sample, RECORD_BYTES);
+    expect(memcmp(journal_record(0), record, RECORD_BYTES) == 0, "this sample has to leave another record");
+}
+
+static void compare_readings(struct dice *dice)
+{
+    static const float borders[] = {0, 1, 3.5f, 4.5f, 10, 69.4375f, 69.5f, 128};
+    foldharbor_desk desk = both_open(some_card(dice)).desk;
+
+    lay_journal(RECORD_BYTES, UINT8_MAX);
+    compare_known_readings(dice, desk);
+    compare_known_record(desk);
+    for (uint32_t speed = 1; speed <= MOST_SPEED + 1; speed++)
+        for (uint32_t i = 0; i < 5; i++)
+            compare_speed(dice, desk, float_of(bits_of(speed_border(speed)) - 2 + i));
+    for (size_t i = 0; i < sizeof borders / sizeof borders[0]; i++)
+        compare_around(dice, desk, borders[i]);
+    for (uint32_t exponent = 0; exponent <= UINT8_MAX; exponent++)
+        compare_around(dice, desk, float_of(exponent << 23));
+    for (uint32_t i = 0; i < 10000; i++) {
+        compare_speed(dice, desk, float_of(dice_roll(dice, UINT32_MAX)));
+        compare_pressure(dice, desk, float_of(dice_roll(dice, UINT32_MAX)));
+    }
+}
+
+/* Ranges. */
+
+/* All calls on a desk that is in range or not. The step back leaves few ticks, since many take their time. */
+static void compare_judgement(struct dice *dice, foldharbor_desk desk, bool in_range)
+{
+    uint32_t count = desk.n - (desk.n < 20 ? desk.n : dice_roll(dice, 20));
+    foldharbor_outcome outcome = both_tick(desk, some_sample(dice), FOLDHARBOR_JOURNAL_BYTES);
+
+    expect((outcome.refusal != REFUSED_DESK) == in_range, "a tick takes another range");
+    outcome = both_step_back(desk, count, FOLDHARBOR_JOURNAL_BYTES);
+    expect((outcome.refusal != REFUSED_DESK) == in_range, "a step back takes another range");
+    outcome = both_restart(desk);
+    expect((outcome.refusal != REFUSED_DESK) == in_range, "a restart takes another range");
+}
+
+/* The desk with the field at the ends of its range, next to them, and far out. */
+static void compare_field(struct dice *dice, foldharbor_desk desk, const struct field *field)
+{
+    const uint32_t values[] = {field->least - 1, field->least,    field->least + 1, field->most - 1,
+                               field->most,      field->most + 1, UINT16_MAX,       0};
+
+    for (size_t i = 0; i < sizeof values / sizeof values[0]; i++) {
+        set_field(&desk, field, values[i]);
+
+        bool in_range = field_takes(field, get_field(&desk, field));
+
+        compare_judgement(dice, desk, in_range);
+        if (field < desk_fields + CARD_FIELDS)
+            expect((both_open(desk.card).refusal == 0) == in_range, "an opening takes another range");
+    }
+}
+
+static void compare_ranges(struct dice *dice)
+{
+    lay_some_journal(dice, FOLDHARBOR_JOURNAL_BYTES);
+    for (uint32_t times = 0; times < 12; times++) {
+        foldharbor_desk desk = some_desk(dice, FOLDHARBOR_MOST_TICKS);
+
+        if (times == 0)
+            desk = both_open(desk.card).desk;
+        for (const struct field *field = desk_fields; field < desk_fields + DESK_FIELDS; field++)
+            compare_field(dice, desk, field);
+    }
+}
+
+/* Several faults at once: the first in the order of the rules is what is refused. */
+
+static uint32_t first_of(const uint8_t *order, uint32_t faults)
+{
+    if (faults == 0)
+        return 0;
+    for (; !(faults & 1); faults >>= 1)
+        order++;
+    return *order;
+}
+
+static void compare_faults_of_tick(struct dice *dice, uint32_t faults)
+{
+    enum { DESK = 1 << 0, SHORT = 1 << 1, FULL_UP = 1 << 2, SPEED = 1 << 3, PRESSURE = 1 << 4, SWITCH = 1 << 5 };
+    static const uint8_t order[] = {5, 6, 7, 1, 2, 3};
+    foldharbor_desk desk = some_desk(dice, 20);
+    foldharbor_sample sample = some_sample(dice);
+
+    desk.n++;
+
+    size_t used = (size_t)RECORD_BYTES * desk.n;
+    size_t length = used + RECORD_BYTES + dice_roll(dice, 2 * RECORD_BYTES);
+
+    if (faults & FULL_UP)
+        length = used + dice_roll(dice, RECORD_BYTES);
+    if (faults & SHORT)
+        length = dice_roll(dice, used);
+    if (faults & DESK)
+        desk = bent_desk(dice, desk);
+    if (faults & SPEED)
+        spoil_speed(dice, &sample);
+    if (faults & PRESSURE)
+        spoil_pressure(dice, &sample);
+    if (faults & SWITCH)
+        spoil_switch(dice, &sample);
+    expect(both_tick(desk, sample, length).refusal == first_of(order, faults), "another fault of the tick comes first");
+}
+
+static void compare_faults_of_step_back(struct dice *dice, uint32_t faults)
+{
+    enum { DESK = 1 << 0, SHORT = 1 << 1, TOO_FAR = 1 << 2, RECORD = 1 << 3 };
+    static const uint8_t order[] = {5, 6, 8, 9};
+    foldharbor_desk desk = some_desk(dice, 20);
+
+    desk.n++;
+
+    size_t length = (size_t)RECORD_BYTES * desk.n + dice_roll(dice, 2 * RECORD_BYTES);
+    uint32_t count = dice_roll(dice, desk.n);
+    uint32_t place = dice_roll(dice, desk.n - count);
+
+    if (faults & RECORD)
+        lay_bad_record(place, dice_roll(dice, RECORD_FAULTS));
+    if (faults & TOO_FAR)
+        count = some_count_above(dice, desk.n);
+    if (faults & SHORT)
+        length = dice_roll(dice, RECORD_BYTES * desk.n);
+    if (faults & DESK)
+        desk = bent_desk(dice, desk);
+    expect(both_step_back(desk, count, length).refusal == first_of(order, faults),
+           "another fault of the step back comes first");
+}
+
+static void compare_faults(struct dice *dice)
+{
+    for (uint32_t times = 0; times < 40; times++) {
+        for (uint32_t faults = 0; faults < 1 << 6; faults++) {
+            lay_some_journal(dice, 25 * RECORD_BYTES);
+            compare_faults_of_tick(dice, faults);
+        }
+        for (uint32_t faults = 0; faults < 1 << 4; faults++) {
+            lay_some_journal(dice, 25 * RECORD_BYTES);
+            compare_faults_of_step_back(dice, faults);
+        }
+    }
+}
+
+/* Journals of all lengths. */
+
+/* A tick of a good sample on a desk that is in range but for its n. */
+static void compare_tick_at(struct dice *dice, foldharbor_desk desk, size_t length)
+{
+    uint32_t wanted = 0;
+
+    if (desk.n > FOLDHARBOR_MOST_TICKS)
+        wanted = REFUSED_DESK;
+    else if (length < (size_t)RECORD_BYTES * desk.n)
+        wanted = REFUSED_SHORT;
+    else if (length < RECORD_BYTES * (desk.n + 1u) || desk.n == FOLDHARBOR_MOST_TICKS)
+        wanted = REFUSED_FULL;
+    expect(both_tick(desk, some_sample(dice), length).refusal == wanted, "a journal is judged in another way");
+}
+
+static void compare_steps_back(foldharbor_desk desk, size_t length)
+{
+    const uint32_t n = desk.n;
+    const uint32_t counts[] = {0,         1,       n / 2,          n,          n + 1,    n + 2,
+                               UINT8_MAX, 1u << 8, (1u << 16) + n, UINT32_MAX, 1u << 31, UINT32_MAX - n};
+
+    for (size_t i = 0; i < sizeof counts / sizeof counts[0]; i++)
+        both_step_back(desk, counts[i], length);
+}
+
+static void compare_short_journals(struct dice *dice)
+{
+    for (size_t length = 0; length <= 6 * RECORD_BYTES; length++) {
+        lay_some_journal(dice, length);
+        for (uint32_t n = 0; n <= length / RECORD_BYTES + 2; n++) {
+            foldharbor_desk desk = some_desk(dice, 0);
+
+            desk.n = n;
+            compare_steps_back(desk, length);
+            compare_tick_at(dice, desk, length);
+        }
+    }
+}
+
+/* Steps back that leave all ticks, or all but a few, are for the journal that is just long enough. */
+static void compare_long_journal(struct dice *dice, size_t length)
+{
+    lay_some_journal(dice, length);
+    for (uint32_t n = FOLDHARBOR_MOST_TICKS - 2; n <= FOLDHARBOR_MOST_TICKS + 1; n++) {
+        foldharbor_desk desk = some_desk(dice, 0);
+
+        desk.n = n;
+        compare_tick_at(dice, desk, length);
+        both_step_back(desk, n - dice_roll(dice, 50), length);
+        both_step_back(desk, n + 1, length);
+        if (length / RECORD_BYTES == FOLDHARBOR_MOST_TICKS)
+            both_step_back(desk, dice_roll(dice, 3), length);
+    }
+}
+
+static void compare_long_journals(struct dice *dice)
+{
+    static const size_t longer[] = {(1 << 16) - 1, 1 << 16, (1 << 16) + 1, (1 << 16) + FOLDHARBOR_JOURNAL_BYTES,
+                                    LONGEST_JOURNAL};
+
+    for (size_t length = FOLDHARBOR_JOURNAL_BYTES - 2 * RECORD_BYTES;
+         length <= FOLDHARBOR_JOURNAL_BYTES + 2 * RECORD_BYTES; length++)
+        compare_long_journal(dice, length);
+    for (size_t i = 0; i < sizeof longer / sizeof longer[0]; i++)
+        compare_long_journal(dice, longer[i]);
+}
+
+/* A record out of range in each place: it is refused among the survivors, and does not matter behind them. */
+static void compare_bad_records(struct dice *dice)
+{
+    enum { TICKS = 9 };
+    foldharbor_desk desk = some_desk(dice, 0);
+
+    desk.n = TICKS;
+    for (uint32_t fault = 0; fault < RECORD_FAULTS; fault++) {
+        for (uint32_t place = 0; place < TICKS; place++) {
+            lay_some_journal(dice, TICKS * RECORD_BYTES);
+            lay_bad_record(place, fault);
+            for (uint32_t left = 0; left <= TICKS; left++) {
+                foldharbor_outcome outcome = both_step_back(desk, TICKS - left, TICKS * RECORD_BYTES);
+
+                expect(outcome.refusal == (place < left ? REFUSED_RECORD : 0), "a bad record counts elsewhere");
+            }
+        }
+    }
+}
+
+/* The same in a journal that is full: the first record, one in the middle, and the last that is left or is not. */
+static void compare_bad_records_of_long_drive(struct dice *dice)
+{
+    static const uint32_t places[] = {0, FOLDHARBOR_MOST_TICKS / 2, FOLDHARBOR_MOST_TICKS - 2,
+                                      FOLDHARBOR_MOST_TICKS - 1};
+    foldharbor_desk desk = some_desk(dice, 0);
+
+    desk.n = FOLDHARBOR_MOST_TICKS;
+    for (size_t i = 0; i < sizeof places / sizeof places[0]; i++) {
+        lay_some_journal(dice, FOLDHARBOR_JOURNAL_BYTES);
+        lay_bad_record(places[i], dice_roll(dice, RECORD_FAULTS));
+        both_step_back(desk, 0, FOLDHARBOR_JOURNAL_BYTES);
+        both_step_back(desk, 1, FOLDHARBOR_JOURNAL_BYTES);
+    }
+}
+
+/* Desks that no drive reaches. */
+
+static void compare_unreached(struct dice *dice, size_t length)
+{
+    foldharbor_desk desk = some_desk(dice, dice_once_in(dice, 20) ? FOLDHARBOR_MOST_TICKS : length / RECORD_BYTES);
+    struct desk seen = model_of_desk(&desk);
+    struct driver driver = generate_driver(dice, &seen.card);
+
+    driver.state = seen.state;
+    driver.record = some_record(dice);
+    driver.phase = dice_roll(dice, PHASES);
+    driver.aimed = true; /* so that the driver is quick to press */
+    if (dice_once_in(dice, 2))
+        driver.record.code = seen.state.signal.last_code;
+    for (uint32_t ticks = generate_run(&driver, 2, 4); ticks > 0; ticks--)
+        desk = both_tick(desk, sample_of(dice, &driver.record), length).desk;
+    if (dice_once_in(dice, 4))
+        both_step_back(desk, some_count(dice, desk.n), length);
+    if (dice_once_in(dice, 8))
+        both_restart(desk);
+}
+
+/* Bytes of any kind in a part of a desk, or in all of it. */
+static void compare_any_bytes(struct dice *dice, size_t length)
+{
+    foldharbor_desk desk = some_desk(dice, length / RECORD_BYTES);
+    foldharbor_sample sample = some_sample(dice);
+
+    switch (dice_roll(dice, 4)) {
+    case 0:
+        some_bytes(dice, &desk.card, sizeof desk.card);
+        break;
+    case 1:
+        some_bytes(dice, &desk.state, sizeof desk.state);
+        break;
+    default:
+        some_bytes(dice, &desk, sizeof desk);
+        break;
+    }
+    if (dice_once_in(dice, 2))
+        some_bytes(dice, &sample, sizeof sample);
+    both_open(desk.card);
+    both_tick(desk, sample, length);
+    both_step_back(desk, dice_once_in(dice, 2) ? dice_roll(dice, UINT32_MAX) : some_count(dice, desk.n), length);
+    both_restart(desk);
+}
+
+static void compare_desks(struct dice *dice)
+{
+    enum { PLACES = 40, JOURNALS = 1000, UNREACHED = 120, ANY = 20 };
+
+    for (uint32_t journals = 0; journals < JOURNALS; journals++) {
+        size_t length = dice_roll(dice, PLACES * RECORD_BYTES);
+
+        lay_some_journal(dice, length);
+        for (uint32_t desks = 0; desks < UNREACHED; desks++)
+            compare_unreached(dice, length);
+        for (uint32_t desks = 0; desks < ANY; desks++)
+            compare_any_bytes(dice, length);
+    }
+}
+
+void compare_cases(struct dice *dice)
+{
+    compare_readings(dice);
+    compare_ranges(dice);
+    compare_faults(dice);
+    compare_short_journals(dice);
+    compare_long_journals(dice);
+    compare_bad_records(dice);
+    compare_bad_records_of_long_drive(dice);
+    compare_desks(dice);
+}

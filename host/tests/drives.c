@@ -1,0 +1,189 @@
+/*
+ * Compares the calls on a desk with the model: drives with steps back and restarts, and cases beside them.
+ *
+ *   drives [SEED [COUNT]]
+ */
+#include <inttypes.h>
+#include <stdio.h>
+#include <stdlib.h>
+#include <string.h>
+
+#include "both.h"
+#include "cases.h"
+#include "fields.h"
+#include "generate.h"
+#include "some.h"
+
+enum { DEFAULT_SEED = 7200, DEFAULT_COUNT = 6000, MEAN_RUN = 6, MOST_RUN = 700 };
+
+static uint64_t seed, drives;
+
+/* Each drive has dice of its own, so that it can be made again without those before it. */
+static struct dice dice_of_drive(void)
+{
+    return (struct dice){seed * 0xD1342543DE82EF95u + drives};
+}
+
+struct drive {
+    struct dice *dice;
+    struct driver driver;
+    size_t length; /* of the journal */
+    foldharbor_desk desk;
+};
+
+/* What the calls gave after so many ticks of the drive: what a step back to there has to give again. */
+static struct outcome history[UINT16_MAX + 1];
+
+static void go_on(struct drive *drive, foldharbor_outcome outcome)
+{
+    struct outcome *now = &history[outcome.desk.n];
+
+    drive->desk = outcome.desk;
+    if (outcome.refusal != 0)
+        return;
+    *now = model_of_outcome(&outcome);
+    drive->driver.state = now->desk.state;
+    memcpy(drive->driver.answer, now->answer, ANSWER_BYTES);
+}
+
+static struct drive begin_drive(struct dice *dice, size_t length)
+{
+    struct card card = generate_card(dice);
+    struct drive drive = {.dice = dice, .driver = generate_driver(dice, &card), .length = length};
+
+    lay_journal(length, dice_roll(dice, 256));
+    go_on(&drive, both_open(card_of_model(&card)));
+    drives++;
+    return drive;
+}
+
+static bool tick(struct drive *drive)
+{
+    foldharbor_outcome outcome = both_tick(drive->desk, sample_of(drive->dice, &drive->driver.record), drive->length);
+
+    go_on(drive, outcome);
+    return outcome.refusal == 0;
+}
+
+/* Drives on with one choice of the driver; false when the journal is full. */
+static bool drive_on(struct drive *drive)
+{
+    bool accepted = true;
+
+    for (uint32_t ticks = generate_run(&drive->driver, MEAN_RUN, MOST_RUN); ticks > 0 && accepted; ticks--)
+        accepted = tick(drive);
+    return accepted;
+}
+
+static void step_back(struct drive *drive, uint32_t count)
+{
+    uint16_t left = drive->desk.n - count;
+    foldharbor_outcome outcome = both_step_back(drive->desk, count, drive->length);
+
+    expect(outcome.refusal == 0 && !compare_outcomes(&outcome, &history[left]).name,
+           "a step back gives another desk or answer than that tick gave");
+    go_on(drive, outcome);
+}
+
+static void restart(struct drive *drive)
+{
+    go_on(drive, both_restart(drive->desk));
+}
+
+/* A call that is refused. */
+static void disturb(struct drive *drive)
+{
+    struct dice *dice = drive->dice;
+    foldharbor_sample sample = sample_of(dice, &drive->driver.record);
+    size_t shorter = dice_roll(dice, RECORD_BYTES * (drive->desk.n + 1)); /* without room for one more record */
+
+    switch (dice_roll(dice, 8)) {
+    case 0:
+        both_tick(bent_desk(dice, drive->desk), sample, drive->length);
+        return;
+    case 1:
+        both_step_back(bent_desk(dice, drive->desk), 0, drive->length);
+        return;
+    case 2:
+        both_restart(bent_desk(dice, drive->desk));
+        return;
+    case 3:
+        go_on(drive, both_step_back(drive->desk, some_count_above(dice, drive->desk.n), drive->length));
+        return;
+    case 4:
+        go_on(drive, both_tick(drive->desk, sample, shorter < drive->length ? shorter : drive->length));
+        return;
+    case 5:
+        spoil_speed(dice, &sample);
+        break;
+    case 6:
+        spoil_pressure(dice, &sample);
+        break;
+    default:
+        spoil_switch(dice, &sample);
+        break;
+    }
+    go_on(drive, both_tick(drive->desk, sample, drive->length));
+}
+
+static void compare_drive(void)
+{
+    struct dice dice = dice_of_drive();
+    uint32_t ticks = dice_between(&dice, 20, dice_once_in(&dice, 10) ? 2000 : 500);
+    struct drive drive = begin_drive(&dice, dice_between(&dice, RECORD_BYTES * ticks / 2, 2 * RECORD_BYTES * ticks));
+
+    for (uint64_t end = calls_made() + ticks; calls_made() < end;) {
+        uint32_t what = dice_roll(&dice, 32);
+
+        if (what == 0 && dice_once_in(&dice, 4))
+            restart(&drive);
+        else if (what <= 1)
+            step_back(&drive, some_count(&dice, drive.desk.n));
+        else if (what <= 4)
+            disturb(&drive);
+        else if (!drive_on(&drive))
+            step_back(&drive, some_count(&dice, drive.desk.n));
+    }
+}
+
+/* A drive to the end of a long journal, with steps back from there. */
+static void compare_long_drive(size_t length)
+{
+    struct dice dice = dice_of_drive();
+    struct drive drive = begin_drive(&dice, length);
+    uint32_t capacity = length < FOLDHARBOR_JOURNAL_BYTES ? length / RECORD_BYTES : FOLDHARBOR_MOST_TICKS;
+
+    for (uint64_t end = calls_made() + 2 * capacity; calls_made() < end && drive_on(&drive);)
+        ;
+    expect(drive.desk.n == capacity, "the journal is full elsewhere");
+    step_back(&drive, 0);
+    step_back(&drive, 1);
+    tick(&drive);
+    tick(&drive);
+    disturb(&drive);
+    step_back(&drive, drive.desk.n / 2);
+    drive_on(&drive);
+    restart(&drive);
+    drive_on(&drive);
+}
+
+int main(int count, char **arguments)
+{
+    seed = count > 1 ? strtoull(arguments[1], NULL, 0) : DEFAULT_SEED;
+    uint64_t wanted = count > 2 ? strtoull(arguments[2], NULL, 0) : DEFAULT_COUNT;
+    struct dice dice = {seed};
+
+    printf("drives: seed %" PRIu64 "\n", seed);
+    compare_cases(&dice);
+    compare_long_drive(FOLDHARBOR_JOURNAL_BYTES - 1);
+    compare_long_drive(FOLDHARBOR_JOURNAL_BYTES);
+    compare_long_drive(FOLDHARBOR_JOURNAL_BYTES + RECORD_BYTES);
+    while (drives < wanted)
+        compare_drive();
+
+    bool all_seen = report_seen_in_calls();
+
+    printf("%s\n", all_seen ? "everything listed was seen" : "something listed was never seen");
+    printf("drives: %" PRIu64 " drives, %" PRIu64 " calls, %" PRIu64 " differ\n", drives, calls_made(), differences());
+    return differences() > 0 || !all_seen;
+}
