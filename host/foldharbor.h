@@ -20,7 +20,7 @@
  *   foldharbor_text            finds a message's text in a table of texts, in one of two languages
  *   foldharbor_version         the version of the archive
  *
- * A live host in short (host/live.c is a whole one):
+ * A live host in short (host/live.c in the source is a whole one):
  *
  *   static uint8_t journal[FOLDHARBOR_JOURNAL_BYTES];
  *   foldharbor_outcome out = foldharbor_open(card);
@@ -63,8 +63,8 @@ extern "C" {
 uint32_t foldharbor_version(void);
 
 /*
- * Refusals; 0 is none. Each call lists those that it gives in the order in which they are looked for, and gives the
- * first that applies.
+ * Refusals; 0 is none, 14 is not used yet. Each call lists those that it gives in the order in which they are looked
+ * for, and gives the first that applies.
  */
 enum {
     FOLDHARBOR_BAD_SPEED = 1,     /* of a sample: not a number, infinite, below 0, or above 250.0 km/h when rounded */
@@ -72,8 +72,8 @@ enum {
     FOLDHARBOR_BAD_FIELD = 3,     /* another field of a sample is out of range */
     FOLDHARBOR_BAD_CARD = 4,      /* a card's number is out of range; in a file any card's, asked for or not */
     FOLDHARBOR_BAD_DESK = 5,      /* a field of the desk or of its card is out of range */
-    FOLDHARBOR_SHORT_JOURNAL = 6, /* the journal is shorter than 8 bytes for each tick of the desk */
-    FOLDHARBOR_FULL_JOURNAL = 7,  /* it has no place for one more record, or the desk has 7,200 ticks */
+    FOLDHARBOR_SHORT_JOURNAL = 6, /* the journal has fewer than 8n bytes, for the desk's n ticks */
+    FOLDHARBOR_FULL_JOURNAL = 7,  /* it has fewer than 8n + 8, or n is 7,200 */
     FOLDHARBOR_BACK_TOO_FAR = 8,  /* more ticks to strike than the desk has */
     FOLDHARBOR_BAD_RECORD = 9,    /* a record is out of range: one that a step back leaves, or a run's in a file */
     FOLDHARBOR_BAD_FILE = 10,     /* shorter than a header, a count out of range, or an offset, the total or the real
@@ -90,7 +90,7 @@ enum {
 /*
  * Units: a tick is 0.1 s, and speeds are in tenths of km/h, if nothing else is said.
  */
-enum { /* sizes in bytes, and limits; where no least is named it is 0 */
+enum { /* sizes in bytes, and limits */
     FOLDHARBOR_MOST_TICKS = 7200, /* of a desk, and of all runs of an exercise: 12 minutes */
     FOLDHARBOR_RECORD_BYTES = 8,
     FOLDHARBOR_JOURNAL_BYTES = FOLDHARBOR_RECORD_BYTES * FOLDHARBOR_MOST_TICKS, /* enough for any drive */
@@ -117,9 +117,9 @@ enum { /* sizes in bytes, and limits; where no least is named it is 0 */
 
 /* The card: what the train is, as the school sets it. In parentheses, here and below, the range. */
 typedef struct foldharbor_card {
-    uint16_t design;       /* design speed (1 to 2500, as the next four) */
-    uint16_t set;          /* set speed */
-    uint16_t highest;      /* highest speed */
+    uint16_t design;       /* design speed: the permitted speed is at most this (1 to 2500, as the next four) */
+    uint16_t set;          /* set speed: likewise; up to 1000 the one-time prompt looks further ahead */
+    uint16_t highest;      /* highest speed: likewise */
     uint16_t pos;          /* ceiling of mode POS */
     uint16_t zav;          /* ceiling of mode ZAV */
     uint16_t tolerance;    /* over the permitted speed before NZ2 (0 to 100) */
@@ -129,19 +129,19 @@ typedef struct foldharbor_card {
     uint16_t wait;         /* of the movement check, in ticks (250 or 1000, no other) */
 } foldharbor_card;
 
-enum { /* signal codes */
-    FOLDHARBOR_CODE_NONE = 0,
-    FOLDHARBOR_CODE_STOP = 1,
-    FOLDHARBOR_CODE_WARNING = 2,
-    FOLDHARBOR_CODE_FORTY = 3, /* "40 and warning" */
-    FOLDHARBOR_CODE_CLEAR = 4
+enum { /* signal codes, and the target T of each */
+    FOLDHARBOR_CODE_NONE = 0,    /* 1200 */
+    FOLDHARBOR_CODE_STOP = 1,    /* the card's */
+    FOLDHARBOR_CODE_WARNING = 2, /* 1200 */
+    FOLDHARBOR_CODE_FORTY = 3,   /* "40 and warning": 400, and 200 more for each press of PLUS, four times at most */
+    FOLDHARBOR_CODE_CLEAR = 4    /* 1600 */
 };
 
-enum { /* modes */
-    FOLDHARBOR_MODE_POS = 1, /* shunting; a fresh desk is in it */
-    FOLDHARBOR_MODE_PRE = 2, /* operation under signal codes */
-    FOLDHARBOR_MODE_VYL = 3, /* lockout: operation without signal codes */
-    FOLDHARBOR_MODE_ZAV = 4  /* dead in tow */
+enum { /* modes, and the ceiling of each */
+    FOLDHARBOR_MODE_POS = 1, /* shunting: the card's; a fresh desk is in it */
+    FOLDHARBOR_MODE_PRE = 2, /* operation under signal codes: 1600 */
+    FOLDHARBOR_MODE_VYL = 3, /* lockout, operation without signal codes: 1200 */
+    FOLDHARBOR_MODE_ZAV = 4  /* dead in tow: the card's */
 };
 
 enum { /* of the lever, and of motion */
@@ -150,9 +150,13 @@ enum { /* of the lever, and of motion */
     FOLDHARBOR_REVERSE = 2
 };
 
-enum { /* bits of the flags of a sample and of a record; the highest bit is 0 */
-    FOLDHARBOR_FLAG_VIGILANCE = 1 << 0, /* the first three are set while a button is down; it is pressed in a tick */
-    FOLDHARBOR_FLAG_PLUS = 1 << 1,      /* with the button down after one with it up */
+/*
+ * Bits of the flags of a sample and of a record; the highest bit is 0. The first three are buttons, set while the
+ * button is down; a press is a tick with the button down after a tick with it up.
+ */
+enum {
+    FOLDHARBOR_FLAG_VIGILANCE = 1 << 0,
+    FOLDHARBOR_FLAG_PLUS = 1 << 1,
     FOLDHARBOR_FLAG_MAN = 1 << 2,
     FOLDHARBOR_FLAG_DIRECT_BRAKE = 1 << 3,
     FOLDHARBOR_FLAG_REMOTE_STOP = 1 << 4,
@@ -162,30 +166,43 @@ enum { /* bits of the flags of a sample and of a record; the highest bit is 0 */
 
 /* A sample: the cab's readings at a tick. */
 typedef struct foldharbor_sample {
-    float speed;    /* in m/s, rounded to tenths of km/h exactly, halves up (to 69.458 m/s, which is 2500) */
+    float speed;    /* in m/s, rounded to tenths of km/h exactly, halves up (0 to 69.458, which is still 2500) */
     float pressure; /* in the main line, in bar (0 to 10) */
     uint8_t code;   /* signal code (0 to 4) */
-    uint8_t mode;   /* asked for; the desk takes it where the speed is 0 (1 to 4) */
+    uint8_t mode;   /* asked for: taken in a tick at speed 0, and passed over while the train moves (1 to 4) */
     uint8_t lever;  /* its direction (0 to 2) */
     uint8_t flags;  /* (0 to 127) */
-    uint8_t sense;  /* direction of motion (0 to 2) */
+    uint8_t sense;  /* direction of motion; 0 at a moving train is none that agrees with the lever (0 to 2) */
 } foldharbor_sample;
 
+/*
+ * How the permitted speed P comes about: it is the least of the card's design, set and highest speed, the mode's
+ * ceiling and, in PRE, the signal speed. The signal speed is T. Where a new code's T is below the old signal speed, a
+ * braking curve falls from the old one, whatever P and the train's speed are, by the card's deceleration down to T; so
+ * P may stand for a while though the curve runs. Under MAN, where the driver brakes on his own responsibility and not
+ * by a curve (by the button, by adhesion loss, or where a lower code ends a gap of more than 5 s), it is the train's
+ * speed as it falls, and not below 1200.
+ */
 enum { /* bits of an answer's marks */
     FOLDHARBOR_MARK_MAN = 1 << 0,             /* MAN is on */
     FOLDHARBOR_MARK_CURVE = 1 << 1,           /* a braking curve is running */
-    FOLDHARBOR_MARK_CYCLIC_PROMPT = 1 << 2,   /* cyclic vigilance asks for the button */
-    FOLDHARBOR_MARK_ONE_TIME_PROMPT = 1 << 3, /* one-time vigilance asks for the button */
+    FOLDHARBOR_MARK_CYCLIC_PROMPT = 1 << 2,   /* cyclic vigilance wants a press: the last 35 ticks of its cycle */
+    FOLDHARBOR_MARK_ONE_TIME_PROMPT = 1 << 3, /* one-time vigilance wants a press: for 34 ticks */
     FOLDHARBOR_MARK_ONE_TIME_KIND = 1 << 4,   /* kind of that prompt: 0 at a curve's start, 1 when nearing the curve */
-    FOLDHARBOR_MARK_ZS20 = 1 << 5             /* warning tone ZS20 sounds */
+    FOLDHARBOR_MARK_ZS20 = 1 << 5             /* warning tone: from 100 ticks before NZ5 on */
 };
 
-enum { /* bits of the causes: each opens the emergency brake valve for as long as it is held */
-    FOLDHARBOR_NZ1 = 1 << 0, /* vigilance not confirmed in time */
-    FOLDHARBOR_NZ2 = 1 << 1, /* faster than the permitted speed and the tolerance */
-    FOLDHARBOR_NZ3 = 1 << 2, /* moved 10 m against the lever, or without cab on */
-    FOLDHARBOR_NZ4 = 1 << 3, /* stopped from outside */
-    FOLDHARBOR_NZ5 = 1 << 4  /* stood too long with the brakes released */
+/*
+ * Bits of the causes. Each opens the emergency brake valve for as long as it is held: until a press of vigilance, in a
+ * tick that does not trigger it anew, under the condition in parentheses. NZ2 is triggered in every mode, the others in
+ * PRE and VYL alone.
+ */
+enum {
+    FOLDHARBOR_NZ1 = 1 << 0, /* a prompt ended without a press (speed 0) */
+    FOLDHARBOR_NZ2 = 1 << 1, /* faster than P and the tolerance (at most P) */
+    FOLDHARBOR_NZ3 = 1 << 2, /* moved 10 m without cab on, or without sense and lever both 1 or both 2 (speed 0) */
+    FOLDHARBOR_NZ4 = 1 << 3, /* remote stop (speed 0, remote stop off) */
+    FOLDHARBOR_NZ5 = 1 << 4  /* stood for the card's wait with the brakes released (always) */
 };
 
 /* An answer: what the desk shows after a tick. */
@@ -200,7 +217,8 @@ typedef struct foldharbor_answer {
 
 /*
  * The desk: all that is kept between ticks. A host keeps it, copies it, puts it back, and hands it to the next call. It
- * may read the fields; what it writes there the next call judges by its range alone (FOLDHARBOR_BAD_DESK).
+ * may read the fields; what it writes there the next call judges by its range alone (FOLDHARBOR_BAD_DESK). Desks are
+ * compared field by field: bytes between the fields hold anything.
  */
 typedef struct foldharbor_codes {
     uint8_t last;        /* code of the last tick in PRE (0 to 4) */
@@ -222,12 +240,12 @@ typedef struct foldharbor_signal {
 } foldharbor_signal;
 
 typedef struct foldharbor_prompt { /* of one-time vigilance */
-    uint8_t ticks;                 /* 1 in the tick in which it comes; 0: no prompt (0 to 35) */
+    uint8_t ticks;                 /* 1 in the tick in which it comes; 0: no prompt (0 to 35, 34 at most in a drive) */
     uint8_t kind;                  /* (0 to 1) */
 } foldharbor_prompt;
 
 typedef struct foldharbor_cyclic { /* cyclic vigilance */
-    uint8_t kind;                  /* 0 none, 1 ordinary, 2 increased */
+    uint8_t kind;                  /* 0 none, 1 ordinary, 2 increased, with a cycle of 120 ticks (0 to 2) */
     uint16_t ticks;                /* since it was confirmed (0 to 599) */
 } foldharbor_cyclic;
 
@@ -239,7 +257,7 @@ typedef struct foldharbor_state {
     foldharbor_cyclic cyclic;
     uint16_t wrongway; /* distance moved against the lever, in units of 1/360 m (0 to 3600) */
     uint16_t standing; /* ticks that the train has stood with the brakes released (0 to 1000) */
-    uint8_t causes;    /* that are held: the valve is open exactly when this is not 0 (0 to 31) */
+    uint8_t causes;    /* that are held (0 to 31) */
 } foldharbor_state;
 
 typedef struct foldharbor_desk {
@@ -249,8 +267,11 @@ typedef struct foldharbor_desk {
 } foldharbor_desk;
 
 /*
- * What a call on a desk returns. A refusal gives back the very desk that was handed in, and an answer of zeros. So a
- * host always goes on with the desk, and sets the valve by desk.state.causes, which a refused reading leaves as it was.
+ * What a call on a desk returns. A refusal gives back the desk that was handed in, and an answer of zeros. So a host
+ * always goes on with the desk, and sets the valve by desk.state.causes, which a refused reading leaves as it was.
+ *
+ * A refused tick did not happen: no time passes on the desk, and prompts and curves stand still. A host whose readings
+ * stay bad opens the valve by itself.
  */
 typedef struct foldharbor_outcome {
     foldharbor_desk desk;
@@ -260,18 +281,19 @@ typedef struct foldharbor_outcome {
 
 /*
  * Opens a desk: the fresh desk of the card, in mode POS with nothing held, and an answer of zeros.
- * Refusal: FOLDHARBOR_BAD_CARD; then the desk is of zeros, card and mode too, which every other call refuses.
+ * Refusal: FOLDHARBOR_BAD_CARD; then every field of the desk is 0, card and mode too, which every other call refuses.
  */
 foldharbor_outcome foldharbor_open(foldharbor_card card);
 
 /*
  * Plays one tick: the desk a tick later, and what it shows. Writes the tick's record to bytes 8n to 8n + 7 of the
- * journal, for the n of the desk handed in, and no other byte. Refusals: FOLDHARBOR_BAD_DESK, SHORT_JOURNAL,
- * FULL_JOURNAL, BAD_SPEED, BAD_PRESSURE, BAD_FIELD; then no byte of the journal changes.
+ * journal, for the n of the desk handed in, and no other byte. Refusals: FOLDHARBOR_BAD_DESK, FOLDHARBOR_SHORT_JOURNAL,
+ * FOLDHARBOR_FULL_JOURNAL, FOLDHARBOR_BAD_SPEED, FOLDHARBOR_BAD_PRESSURE, FOLDHARBOR_BAD_FIELD; then no byte of the
+ * journal changes.
  *
- * The journal is a buffer of the host's with the records of all ticks. Hand the same buffer to every call on a desk, and
- * leave its bytes alone: a step back rebuilds the desk from them. What it holds before the first tick does not matter.
- * FOLDHARBOR_JOURNAL_BYTES are enough for any drive; a shorter one is full earlier.
+ * The journal is a buffer of the host's with the records of all ticks. Hand the same buffer to every call on a desk,
+ * and leave its bytes alone: a step back rebuilds the desk from them. What it holds before the first tick does not
+ * matter. FOLDHARBOR_JOURNAL_BYTES are enough for any drive; a shorter one is full earlier.
  */
 foldharbor_outcome foldharbor_tick(foldharbor_desk desk, foldharbor_sample sample, uint8_t *journal,
                                    size_t journal_length);
@@ -279,7 +301,8 @@ foldharbor_outcome foldharbor_tick(foldharbor_desk desk, foldharbor_sample sampl
 /*
  * Strikes the last k ticks: the desk and the answer as they were after the tick before those, rebuilt from the journal;
  * an answer of zeros where no tick is left. 10 ticks are a second; k may be 0. Writes nothing: the next ticks are
- * recorded over the struck ones. Refusals: FOLDHARBOR_BAD_DESK, SHORT_JOURNAL, BACK_TOO_FAR, BAD_RECORD.
+ * recorded over the struck ones. Refusals: FOLDHARBOR_BAD_DESK, FOLDHARBOR_SHORT_JOURNAL, FOLDHARBOR_BACK_TOO_FAR,
+ * FOLDHARBOR_BAD_RECORD.
  *
  * Of a desk in range it looks at card and n alone. So a drive is kept in a file as its card (foldharbor_put_card), its
  * n and the first 8n bytes of its journal, and is taken up again by
@@ -292,12 +315,13 @@ foldharbor_outcome foldharbor_step_back(foldharbor_desk desk, uint32_t k, const 
                                         size_t journal_length);
 
 /*
- * Strikes all ticks: the fresh desk of the same card, and an answer of zeros. Refusal: FOLDHARBOR_BAD_DESK.
+ * Strikes all ticks: the fresh desk of the same card, with nothing held, and an answer of zeros.
+ * Refusal: FOLDHARBOR_BAD_DESK.
  */
 foldharbor_outcome foldharbor_restart(foldharbor_desk desk);
 
 /*
- * Bytes. Numbers of 16 bits have their low byte first. docs/FORMATS.md has every format with examples.
+ * Bytes. Numbers of 16 bits have their low byte first. docs/FORMATS.md in the source has every format with examples.
  */
 enum { /* places in a card, 16 bits each, in the order of the struct's fields */
     FOLDHARBOR_CARD_DESIGN = 0,
@@ -321,13 +345,13 @@ enum { /* places in an answer, likewise; the first two have 16 bits, the others 
     FOLDHARBOR_ANSWER_HELD = 7
 };
 
-enum { /* places in a record */
-    FOLDHARBOR_RECORD_SPEED = 0, /* 16 bits; the others have 8 */
+enum { /* places in a record; ranges as in a sample */
+    FOLDHARBOR_RECORD_SPEED = 0, /* 16 bits; the others have 8 (0 to 2500) */
     FOLDHARBOR_RECORD_CODE = 2,
     FOLDHARBOR_RECORD_MODE = 3, /* asked for */
     FOLDHARBOR_RECORD_LEVER = 4,
     FOLDHARBOR_RECORD_FLAGS = 5,
-    FOLDHARBOR_RECORD_BAND = 6, /* of the pressure */
+    FOLDHARBOR_RECORD_BAND = 6, /* of the pressure (0 to 2) */
     FOLDHARBOR_RECORD_SENSE = 7 /* of motion */
 };
 
@@ -374,8 +398,8 @@ typedef struct foldharbor_counts {
 } foldharbor_counts;
 
 /*
- * Reads an exercise file. Refusals: FOLDHARBOR_BAD_FILE, BAD_CARD; then, in one run after the other, so that an earlier
- * run comes first, BAD_TICKS, BAD_RECORD.
+ * Reads an exercise file. Refusals: FOLDHARBOR_BAD_FILE, FOLDHARBOR_BAD_CARD; then, in one run after the other, so that
+ * an earlier run comes first, FOLDHARBOR_BAD_TICKS, FOLDHARBOR_BAD_RECORD.
  */
 foldharbor_counts foldharbor_read_exercise(const uint8_t *exercise, size_t exercise_length);
 
@@ -387,8 +411,8 @@ foldharbor_counts foldharbor_read_exercise(const uint8_t *exercise, size_t exerc
  *
  * Returns the count of ticks, 0 to 7,200; bytes of the buffer behind the last answer keep their values. A refusal
  * returns FOLDHARBOR_REFUSED plus its number, so a number above it, and changes no byte of the buffer:
- * FOLDHARBOR_BAD_FILE, BAD_CARD, NO_SUCH_CARD; then, in one run after the other, BAD_TICKS, BAD_RECORD; then
- * SHORT_BUFFER.
+ * FOLDHARBOR_BAD_FILE, FOLDHARBOR_BAD_CARD, FOLDHARBOR_NO_SUCH_CARD; then, in one run after the other,
+ * FOLDHARBOR_BAD_TICKS, FOLDHARBOR_BAD_RECORD; then FOLDHARBOR_SHORT_BUFFER.
  */
 uint32_t foldharbor_run_exercise(const uint8_t *exercise, size_t exercise_length, uint32_t card, uint8_t *answers,
                                  size_t answers_length);
@@ -424,12 +448,16 @@ typedef struct foldharbor_place {
  *   printf("%.*s", place.end - place.start, (const char *)table + place.start);
  *
  * A refusal's place is empty, so that this prints nothing. UTF-8 allows a zero byte in a message; printf stops there.
- * The two tables may be the same or overlap. Refusals: FOLDHARBOR_NO_SUCH_LANGUAGE, BAD_TABLE, NO_SUCH_MESSAGE.
+ * The two tables may be the same or overlap. Refusals: FOLDHARBOR_NO_SUCH_LANGUAGE, FOLDHARBOR_BAD_TABLE,
+ * FOLDHARBOR_NO_SUCH_MESSAGE.
  */
 foldharbor_place foldharbor_text(const uint8_t *first, size_t first_length, const uint8_t *second, size_t second_length,
                                  uint32_t language, uint32_t message);
 
-/* The numbers of the desk's own messages, the same in its English and in its Slovak table (see texts/README.md). */
+/*
+ * The numbers of the desk's own messages, the same in its English and in its Slovak table, which texts/tables.sh in the
+ * source makes. What is added begins at 0 or at 1, so that no two are the same.
+ */
 enum {
     FOLDHARBOR_TEXT_CAUSE = 0,            /* + bit in the causes, 0 to 7; no answer has bits 5 to 7 yet */
     FOLDHARBOR_TEXT_MARK = 8,             /* + bit in the marks, 0 to 2 and 5 */
