@@ -26,10 +26,10 @@ sh host/run.sh "$room/live" --fast <tests/live.keys | uniq -f 3 | diff - tests/l
 
 # under another root, and over what is there
 for _ in 1 2; do
-    DESTDIR=$room/root bash host/install.sh /opt/desk/ >"$room/told" || miss "nothing is installed under DESTDIR"
+    DESTDIR=$room/elsewhere bash host/install.sh /opt/desk/ >"$room/told" || miss "nothing is installed under DESTDIR"
 done
 for file in "${files[@]:0:2}"; do
-    cmp "$usr/$file" "$room/root/opt/desk/$file" || miss "$file differs"
+    cmp "$usr/$file" "$room/elsewhere/opt/desk/$file" || miss "$file differs"
 done
-diff <(sed "s|^prefix=.*|prefix=/opt/desk|" "$usr/${files[2]}") "$room/root/opt/desk/${files[2]}" || miss "pkg-config is told DESTDIR"
+diff <(sed "s|^prefix=.*|prefix=/opt/desk|" "$usr/${files[2]}") "$room/elsewhere/opt/desk/${files[2]}" || miss "pkg-config is told DESTDIR"
 exit $missed
