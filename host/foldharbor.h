@@ -43,7 +43,7 @@
  * a number, and a refused call changes nothing. What is asked of a host is only that each pointer is good for its
  * length, not null even if the length is 0, and that bytes which a call writes do not overlap bytes which it reads.
  * Nothing is kept from one call to the next, and no call waits, allocates or reads a clock: threads may call at the
- * same time, while nobody else touches what a call writes.
+ * same time, while nobody else writes what a call reads or touches what it writes.
  */
 #ifndef FOLDHARBOR_H
 #define FOLDHARBOR_H

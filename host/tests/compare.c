@@ -142,7 +142,8 @@ static bool report_all_seen(void)
     all &= report_bit("MAN", marks_seen, FOLDHARBOR_MARK_MAN);
     all &= report_bit("curve", marks_seen, FOLDHARBOR_MARK_CURVE);
     all &= report_bit("cyclic prompt", marks_seen, FOLDHARBOR_MARK_CYCLIC_PROMPT);
-    all &= report_seen("one-time prompt kind 0", with_bits(marks_seen, prompt_and_kind, FOLDHARBOR_MARK_ONE_TIME_PROMPT));
+    all &=
+        report_seen("one-time prompt kind 0", with_bits(marks_seen, prompt_and_kind, FOLDHARBOR_MARK_ONE_TIME_PROMPT));
     all &= report_seen("one-time prompt kind 1", with_bits(marks_seen, prompt_and_kind, prompt_and_kind));
     all &= report_bit("ZS20", marks_seen, FOLDHARBOR_MARK_ZS20);
     all &= report_bit("NZ1", causes_seen, FOLDHARBOR_NZ1);

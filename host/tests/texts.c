@@ -141,7 +141,8 @@ struct lent {
 };
 
 static uint64_t calls, failures;
-static uint64_t outcomes[3][FOLDHARBOR_NO_SUCH_LANGUAGE + 1]; /* by language, 0 for any that is not 1 or 2, and by refusal */
+/* By language, 0 for any that is not 1 or 2, and by refusal. */
+static uint64_t outcomes[3][FOLDHARBOR_NO_SUCH_LANGUAGE + 1];
 static uint64_t tables_seen[FAULTS];
 static uint64_t strings_seen[2]; /* of one kind: ill-formed ones, well-formed ones */
 
