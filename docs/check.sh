@@ -1,6 +1,7 @@
 #!/usr/bin/env bash
 # Whether the documents name what is there: definitions `crate/File.name`, laws `crate/proofs/File.name`, functions `crate::name`
 # and edits `crate/name` of RULES.md and CONTRACTS.md exist, CONTRACTS.md lists every edit, and every link leads to a file.
+# And whether each exported function is declared in the header, stands in CONTRACTS.md and has its lemmas.
 cd "$(dirname "$0")/.." || exit 1
 missing=0
 miss() {
@@ -26,6 +27,11 @@ for edit in crates/*/must-fail/*.edit; do
     name=${edit#crates/}
     name=${name/\/must-fail/}
     grep -qF "\`${name%.edit}\`" docs/CONTRACTS.md || miss "not in CONTRACTS.md: ${name%.edit}"
+done
+for name in $(sed -n 's/^pub extern "C" fn \([a-z0-9_]*\).*/\1/p' crates/*/src/*.rt); do
+    grep -q "^[a-z_0-9]* $name(" host/foldharbor.h || miss "the header has no $name"
+    grep -q "\*\*\`foldharbor::$name(" docs/CONTRACTS.md || miss "not in CONTRACTS.md: $name"
+    grep -q "^use .*\.$name\.Reads as" crates/foldharbor/proofs/Determined.antt || miss "not in Determined.antt of foldharbor: $name"
 done
 for page in README.md docs/*.md docs/changes/*.md texts/*.md tests/*.md; do
     for link in $(grep -o '](\([^)]*\))' "$page" | sed 's/^](//; s/)$//'); do

@@ -40,10 +40,11 @@
  * restart or another opening.
  *
  * Every call returns, whatever is handed over: any number, any struct and any bytes. What does not fit is refused with
- * a number, and a refused call changes nothing. What is asked of a host is only that each pointer is good for its
- * length, not null even if the length is 0, and that bytes which a call writes do not overlap bytes which it reads.
- * Nothing is kept from one call to the next, and no call waits, allocates or reads a clock: threads may call at the
- * same time, while nobody else writes what a call reads or touches what it writes.
+ * a number (the four calls on the bytes of a card or an answer give zeros), and a refused call changes nothing. What is
+ * asked of a host is only that each pointer is good for its length, not null even if the length is 0, and that bytes
+ * which a call writes do not overlap bytes which it reads. Nothing is kept from one call to the next, and no call
+ * waits, allocates or reads a clock: threads may call at the same time, while nobody else writes what a call reads or
+ * touches what it writes.
  */
 #ifndef FOLDHARBOR_H
 #define FOLDHARBOR_H
@@ -70,7 +71,7 @@ enum {
     FOLDHARBOR_BAD_SPEED = 1,     /* of a sample: not a number, infinite, below 0, or above 250.0 km/h when rounded */
     FOLDHARBOR_BAD_PRESSURE = 2,  /* of a sample: not a number, or not from 0 to 10 bar */
     FOLDHARBOR_BAD_FIELD = 3,     /* another field of a sample is out of range */
-    FOLDHARBOR_BAD_CARD = 4,      /* a card's number is out of range; in a file any card's, asked for or not */
+    FOLDHARBOR_BAD_CARD = 4,      /* a field of a card is out of range; in a file of any card, asked for or not */
     FOLDHARBOR_BAD_DESK = 5,      /* a field of the desk or of its card is out of range */
     FOLDHARBOR_SHORT_JOURNAL = 6, /* the journal has fewer than 8n bytes, for the desk's n ticks */
     FOLDHARBOR_FULL_JOURNAL = 7,  /* it has fewer than 8n + 8, or n is 7,200 */
@@ -152,7 +153,7 @@ enum { /* of the lever, and of motion */
 
 /*
  * Bits of the flags of a sample and of a record; the highest bit is 0. The first three are buttons, set while the
- * button is down; a press is a tick with the button down after a tick with it up.
+ * button is down; a press is a tick with the button down after a tick with it up, or as a desk's first.
  */
 enum {
     FOLDHARBOR_FLAG_VIGILANCE = 1 << 0,
@@ -166,10 +167,11 @@ enum {
 
 /* A sample: the cab's readings at a tick. */
 typedef struct foldharbor_sample {
-    float speed;    /* in m/s, rounded to tenths of km/h exactly, halves up (0 to 69.458, which is still 2500) */
+    float speed;    /* in m/s, rounded to tenths of km/h exactly, halves up (0 to below 2500.5 / 36) */
     float pressure; /* in the main line, in bar (0 to 10) */
     uint8_t code;   /* signal code (0 to 4) */
-    uint8_t mode;   /* asked for: taken in a tick at speed 0, and passed over while the train moves (1 to 4) */
+    uint8_t mode;   /* asked for: taken in a tick at speed 0, and passed over while the train moves; a new one clears
+                       all of the desk but card, n, buttons and causes (1 to 4) */
     uint8_t lever;  /* its direction (0 to 2) */
     uint8_t flags;  /* (0 to 127) */
     uint8_t sense;  /* direction of motion; 0 at a moving train is none that agrees with the lever (0 to 2) */
@@ -177,16 +179,20 @@ typedef struct foldharbor_sample {
 
 /*
  * How the permitted speed P comes about: it is the least of the card's design, set and highest speed, the mode's
- * ceiling and, in PRE, the signal speed. The signal speed is T. Where a new code's T is below the old signal speed, a
- * braking curve falls from the old one, whatever P and the train's speed are, by the card's deceleration down to T; so
- * P may stand for a while though the curve runs. Under MAN, where the driver brakes on his own responsibility and not
- * by a curve (by the button, by adhesion loss, or where a lower code ends a gap of more than 5 s), it is the train's
- * speed as it falls, and not below 1200.
+ * ceiling and, in PRE, the signal speed. The signal speed is T, but for two cases:
+ * - A new code with a T below the old signal speed begins a braking curve, which falls from the old signal speed,
+ *   whatever P is, by the card's deceleration down to T. So P may stand for a while though the curve runs.
+ * - MAN, where the driver brakes on his own responsibility, begins by a press of MAN or by adhesion loss while a curve
+ *   runs, which it ends; and in place of a curve where the code after more than 5 s without one has a lower T than the
+ *   code before had. The signal speed is then the train's speed as it falls, and not below 1200. While MAN stays on a
+ *   new code begins no curve. It ends at speeds up to T while the code stays, and by a new code with a T above the
+ *   train's speed.
  */
 enum { /* bits of an answer's marks */
     FOLDHARBOR_MARK_MAN = 1 << 0,             /* MAN is on */
     FOLDHARBOR_MARK_CURVE = 1 << 1,           /* a braking curve is running */
-    FOLDHARBOR_MARK_CYCLIC_PROMPT = 1 << 2,   /* cyclic vigilance wants a press: the last 35 ticks of its cycle */
+    FOLDHARBOR_MARK_CYCLIC_PROMPT = 1 << 2,   /* cyclic vigilance wants a press: the last 35 ticks of its cycle; of
+                                                 increased vigilance a press before does not count */
     FOLDHARBOR_MARK_ONE_TIME_PROMPT = 1 << 3, /* one-time vigilance wants a press: for 34 ticks */
     FOLDHARBOR_MARK_ONE_TIME_KIND = 1 << 4,   /* kind of that prompt: 0 at a curve's start, 1 when nearing the curve */
     FOLDHARBOR_MARK_ZS20 = 1 << 5             /* warning tone: from 100 ticks before NZ5 on */
@@ -198,11 +204,11 @@ enum { /* bits of an answer's marks */
  * PRE and VYL alone.
  */
 enum {
-    FOLDHARBOR_NZ1 = 1 << 0, /* a prompt ended without a press (speed 0) */
+    FOLDHARBOR_NZ1 = 1 << 0, /* a prompt ran for all its ticks without a press (speed 0) */
     FOLDHARBOR_NZ2 = 1 << 1, /* faster than P and the tolerance (at most P) */
     FOLDHARBOR_NZ3 = 1 << 2, /* moved 10 m without cab on, or without sense and lever both 1 or both 2 (speed 0) */
     FOLDHARBOR_NZ4 = 1 << 3, /* remote stop (speed 0, remote stop off) */
-    FOLDHARBOR_NZ5 = 1 << 4  /* stood for the card's wait with the brakes released (always) */
+    FOLDHARBOR_NZ5 = 1 << 4  /* stood for the card's wait, direct brake off and from 4.5 bar (always) */
 };
 
 /* An answer: what the desk shows after a tick. */
@@ -216,14 +222,14 @@ typedef struct foldharbor_answer {
 } foldharbor_answer;
 
 /*
- * The desk: all that is kept between ticks. A host keeps it, copies it, puts it back, and hands it to the next call. It
- * may read the fields; what it writes there the next call judges by its range alone (FOLDHARBOR_BAD_DESK). Desks are
- * compared field by field: bytes between the fields hold anything.
+ * The desk: all that is kept between ticks. A host keeps it, copies it, puts it back, together with the first 8n bytes
+ * of its journal, and hands it to the next call. It may read the fields; what it writes there the next call judges by
+ * its range alone (FOLDHARBOR_BAD_DESK). Desks are compared field by field: bytes between the fields hold anything.
  */
 typedef struct foldharbor_codes {
-    uint8_t last;        /* code of the last tick in PRE (0 to 4) */
+    uint8_t last;        /* code of the last tick; 0 outside PRE (0 to 4) */
     uint8_t interrupted; /* code before a gap without code (0 to 4) */
-    uint8_t gap;         /* its length in ticks (0 to 51) */
+    uint8_t gap;         /* its length in ticks, 51 for any longer (0 to 51) */
     uint8_t raise;       /* presses of PLUS that count under code "40 and warning" (0 to 4) */
 } foldharbor_codes;
 
@@ -246,7 +252,7 @@ typedef struct foldharbor_prompt { /* of one-time vigilance */
 
 typedef struct foldharbor_cyclic { /* cyclic vigilance */
     uint8_t kind;                  /* 0 none, 1 ordinary, 2 increased, with a cycle of 120 ticks (0 to 2) */
-    uint16_t ticks;                /* since it was confirmed (0 to 599) */
+    uint16_t ticks;                /* since it was confirmed, lapsed or began (0 to 599) */
 } foldharbor_cyclic;
 
 typedef struct foldharbor_state {
@@ -255,8 +261,8 @@ typedef struct foldharbor_state {
     foldharbor_signal signal;
     foldharbor_prompt prompt;
     foldharbor_cyclic cyclic;
-    uint16_t wrongway; /* distance moved against the lever, in units of 1/360 m (0 to 3600) */
-    uint16_t standing; /* ticks that the train has stood with the brakes released (0 to 1000) */
+    uint16_t wrongway; /* distance that counts for NZ3, in units of 1/360 m (0 to 3600) */
+    uint16_t standing; /* ticks of standing that count for NZ5 (0 to 1000) */
     uint8_t causes;    /* that are held (0 to 31) */
 } foldharbor_state;
 
@@ -270,8 +276,8 @@ typedef struct foldharbor_desk {
  * What a call on a desk returns. A refusal gives back the desk that was handed in, and an answer of zeros. So a host
  * always goes on with the desk, and sets the valve by desk.state.causes, which a refused reading leaves as it was.
  *
- * A refused tick did not happen: no time passes on the desk, and prompts and curves stand still. A host whose readings
- * stay bad opens the valve by itself.
+ * A refused tick did not happen: no time passes on the desk, and prompts and curves stand still. A host whose ticks
+ * stay refused, by bad readings or by a full journal, opens the valve by itself.
  */
 typedef struct foldharbor_outcome {
     foldharbor_desk desk;
@@ -281,7 +287,7 @@ typedef struct foldharbor_outcome {
 
 /*
  * Opens a desk: the fresh desk of the card, in mode POS with nothing held, and an answer of zeros.
- * Refusal: FOLDHARBOR_BAD_CARD; then every field of the desk is 0, card and mode too, which every other call refuses.
+ * Refusal: FOLDHARBOR_BAD_CARD; then every field of the desk is 0, card and mode too, and every call refuses it.
  */
 foldharbor_outcome foldharbor_open(foldharbor_card card);
 
@@ -358,7 +364,7 @@ enum { /* places in a record; ranges as in a sample */
 enum { /* bands of the pressure, in bar */
     FOLDHARBOR_BAND_BELOW_3_5 = 0,
     FOLDHARBOR_BAND_BELOW_4_5 = 1, /* and from 3.5 */
-    FOLDHARBOR_BAND_FROM_4_5 = 2   /* brakes released */
+    FOLDHARBOR_BAND_FROM_4_5 = 2   /* no brake by the main line */
 };
 
 /* The card in the first 20 bytes, in range or not; of fewer bytes a card of zeros, which no desk opens with. */
@@ -389,7 +395,7 @@ enum { /* places in a run */
     FOLDHARBOR_RUN_RECORD = 2
 };
 
-/* What an exercise file holds; zeros if it is refused. */
+/* What an exercise file holds; if it is refused, the three counts are 0. */
 typedef struct foldharbor_counts {
     uint8_t refusal; /* 0 if accepted */
     uint16_t cards;

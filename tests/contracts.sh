@@ -13,7 +13,7 @@ change() {
     rm "$tree/crates/$1.was"
 }
 
-# a step back that restarts, and may write the journal as it likes, which one law of `desk` itself would refuse; exported alike
+# a step back that restarts, and may write the journal as it likes, which a law of `desk` and one of `foldharbor` would refuse
 change desk/proofs/Determined.antt '/^pub step-back-reads /d; /^step-back-reads /d'
 change desk/src/lib.rt '/pub fn step_back(/,/^    }$/c\
     pub fn step_back(self, k: u32, journal: \&mut [u8]) -> Outcome\

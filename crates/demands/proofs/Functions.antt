@@ -97,7 +97,7 @@ functions =
           (κs : Lfts 2) (f : Lent file) (b : Lent buffer) → FromNothing (hosting.requires κs (f .0, (card, (b .0, tt))) tt);
     }
 
--- the calls of the archive; `exercise::run` itself is not exported, `hosts` is its call
+-- the calls of the archive; `exercise::run` itself is not exported, so `runs` is the function's and `hosts` the archive's call
 pub exported : Functions
 exported =
     record {

@@ -28,6 +28,6 @@ pub record Functions : Type 3 where
   -- the file, the card's number, the buffer as it is lent, what it comes to, the file and the buffer afterwards
   pub runs : List ℕ → ℕ → List ℕ → Total → List ℕ → List ℕ → Type 0
   pub runs-asks : List ℕ → ℕ → List ℕ → Type 2
-  -- the call of a host program in C: the same, with one number returned
+  -- the exercise call of a host program in C: the same, with one number returned
   pub hosts : List ℕ → ℕ → List ℕ → ℕ → List ℕ → List ℕ → Type 0
   pub hosts-asks : List ℕ → ℕ → List ℕ → Type 2

@@ -8,18 +8,18 @@ use contract.Lifetimes.{Lfts}
 use borrow.Fn.World.{World}
 use denote.Triple.Clauses.{Lasts, atExit}
 use Rattle.numbers.proofs.Alike.{alike}
-use Rattle.foldharbor.proofs.foldharbor_version.Reads as version
+use Rattle.foldharbor.proofs.foldharbor_version.Reads as versioning
 use Rattle.foldharbor.proofs.foldharbor_open.Reads as opening
 use Rattle.foldharbor.proofs.foldharbor_tick.Reads as ticking
 use Rattle.foldharbor.proofs.foldharbor_step_back as backCall
 use Rattle.foldharbor.proofs.foldharbor_step_back.Reads as backing
 use Rattle.foldharbor.proofs.foldharbor_restart.Reads as restarting
-use Rattle.foldharbor.proofs.foldharbor_card_at as cardAtCall
-use Rattle.foldharbor.proofs.foldharbor_card_at.Reads as cardAt
-use Rattle.foldharbor.proofs.foldharbor_put_card.Reads as putCard
-use Rattle.foldharbor.proofs.foldharbor_answer_at as answerAtCall
-use Rattle.foldharbor.proofs.foldharbor_answer_at.Reads as answerAt
-use Rattle.foldharbor.proofs.foldharbor_put_answer.Reads as putAnswer
+use Rattle.foldharbor.proofs.foldharbor_card_at as cardReadCall
+use Rattle.foldharbor.proofs.foldharbor_card_at.Reads as cardReading
+use Rattle.foldharbor.proofs.foldharbor_put_card.Reads as cardPutting
+use Rattle.foldharbor.proofs.foldharbor_answer_at as answerReadCall
+use Rattle.foldharbor.proofs.foldharbor_answer_at.Reads as answerReading
+use Rattle.foldharbor.proofs.foldharbor_put_answer.Reads as answerPutting
 use Rattle.foldharbor.proofs.foldharbor_read_exercise as readCall
 use Rattle.foldharbor.proofs.foldharbor_read_exercise.Reads as reading
 use Rattle.foldharbor.proofs.foldharbor_run_exercise as runCall
@@ -27,10 +27,10 @@ use Rattle.foldharbor.proofs.foldharbor_run_exercise.Reads as running
 use Rattle.foldharbor.proofs.foldharbor_text as textCall
 use Rattle.foldharbor.proofs.foldharbor_text.Reads as telling
 
-pub version-asks-nothing : (κs : Lfts 0) (a : _) (w : World) → version.requires κs a tt w ≡ emp (w .𝓤)
+pub version-asks-nothing : (κs : Lfts 0) (a : _) (w : World) → versioning.requires κs a tt w ≡ emp (w .𝓤)
 version-asks-nothing κs a w = refl
 
-pub version-determined : (κs : Lfts 0) (a : _) (x y : _) (s t : _) → version.Post κs a x s → version.Post κs a y t → x ≡ y
+pub version-determined : (κs : Lfts 0) (a : _) (x y : _) (s t : _) → versioning.Post κs a x s → versioning.Post κs a y t → x ≡ y
 version-determined κs a x y s t p q = alike p q
 
 -- ---- the desk
@@ -64,36 +64,36 @@ pub restart-determined : (κs : Lfts 0) (a : _) (x y : _) (s t : _) → restarti
 restart-determined κs a x y s t p q = alike p q
 
 -- ---- a card and an answer among bytes
-pub card-at-asks-nothing : (κs : Lfts 1) (a : _) (w : World) → cardAt.requires κs a tt w ≡ emp (w .𝓤)
+pub card-at-asks-nothing : (κs : Lfts 1) (a : _) (w : World) → cardReading.requires κs a tt w ≡ emp (w .𝓤)
 card-at-asks-nothing κs a w = refl
 
-pub card-at-determined : (κs : Lfts 1) (a : _) (x y : _) (s t : _) → cardAt.Post κs a x s → cardAt.Post κs a y t → x ≡ y
+pub card-at-determined : (κs : Lfts 1) (a : _) (x y : _) (s t : _) → cardReading.Post κs a x s → cardReading.Post κs a y t → x ≡ y
 card-at-determined κs a x y s t p q = alike p q
 
-pub card-at-reads : (κs : Lfts 1) (a : _) (last : Lasts cardAtCall.ended κs a) → now (atExit cardAtCall.ended κs a last .0) ≡ now (a .0)
+pub card-at-reads : (κs : Lfts 1) (a : _) (last : Lasts cardReadCall.ended κs a) → now (atExit cardReadCall.ended κs a last .0) ≡ now (a .0)
 card-at-reads κs a last = refl
 
-pub put-card-asks-nothing : (κs : Lfts 1) (a : _) (w : World) → putCard.requires κs a tt w ≡ emp (w .𝓤)
+pub put-card-asks-nothing : (κs : Lfts 1) (a : _) (w : World) → cardPutting.requires κs a tt w ≡ emp (w .𝓤)
 put-card-asks-nothing κs a w = refl
 
 -- `s .1 .0` are the bytes, the second parameter, at exit
-pub put-card-determined : (κs : Lfts 1) (a : _) (x y : _) (s t : _) → putCard.Post κs a x s → putCard.Post κs a y t
+pub put-card-determined : (κs : Lfts 1) (a : _) (x y : _) (s t : _) → cardPutting.Post κs a x s → cardPutting.Post κs a y t
     → (x ≡ y) × (now (s .1 .0) ≡ now (t .1 .0))
 put-card-determined κs a x y s t p q = (alike (p .0) (q .0), alike (p .1) (q .1))
 
-pub answer-at-asks-nothing : (κs : Lfts 1) (a : _) (w : World) → answerAt.requires κs a tt w ≡ emp (w .𝓤)
+pub answer-at-asks-nothing : (κs : Lfts 1) (a : _) (w : World) → answerReading.requires κs a tt w ≡ emp (w .𝓤)
 answer-at-asks-nothing κs a w = refl
 
-pub answer-at-determined : (κs : Lfts 1) (a : _) (x y : _) (s t : _) → answerAt.Post κs a x s → answerAt.Post κs a y t → x ≡ y
+pub answer-at-determined : (κs : Lfts 1) (a : _) (x y : _) (s t : _) → answerReading.Post κs a x s → answerReading.Post κs a y t → x ≡ y
 answer-at-determined κs a x y s t p q = alike p q
 
-pub answer-at-reads : (κs : Lfts 1) (a : _) (last : Lasts answerAtCall.ended κs a) → now (atExit answerAtCall.ended κs a last .0) ≡ now (a .0)
+pub answer-at-reads : (κs : Lfts 1) (a : _) (last : Lasts answerReadCall.ended κs a) → now (atExit answerReadCall.ended κs a last .0) ≡ now (a .0)
 answer-at-reads κs a last = refl
 
-pub put-answer-asks-nothing : (κs : Lfts 1) (a : _) (w : World) → putAnswer.requires κs a tt w ≡ emp (w .𝓤)
+pub put-answer-asks-nothing : (κs : Lfts 1) (a : _) (w : World) → answerPutting.requires κs a tt w ≡ emp (w .𝓤)
 put-answer-asks-nothing κs a w = refl
 
-pub put-answer-determined : (κs : Lfts 1) (a : _) (x y : _) (s t : _) → putAnswer.Post κs a x s → putAnswer.Post κs a y t
+pub put-answer-determined : (κs : Lfts 1) (a : _) (x y : _) (s t : _) → answerPutting.Post κs a x s → answerPutting.Post κs a y t
     → (x ≡ y) × (now (s .1 .0) ≡ now (t .1 .0))
 put-answer-determined κs a x y s t p q = (alike (p .0) (q .0), alike (p .1) (q .1))
 

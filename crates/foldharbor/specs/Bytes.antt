@@ -1,4 +1,4 @@
--- A card and an answer from the first of so many bytes, and to them. Bytes too few for it hold none: zeros, and nothing is put.
+-- A card and an answer from the first bytes of a list, and to them. Too few bytes give zeros, and nothing is put there.
 use Prim.Native.Nat.{ℕ}
 use mathlib.Core.Bool.{cond}
 use mathlib.Core.List.{List}

@@ -26,11 +26,11 @@ const VERSION: u32 = 10000;
 // An exercise that is refused gives this plus the number of the refusal.
 const REFUSED: u32 = 10000;
 
-// How many of `width` bytes are put into `length`: all or none.
-fn bytes_put(width: usize, length: usize) -> usize
-    ensures { λ r. ⌜ r ≡ bytesPut width length ⌝ }
+// How many of `width` bytes are put where there are `room`: all or none.
+fn bytes_put(width: usize, room: usize) -> usize
+    ensures { λ r. ⌜ r ≡ bytesPut width room ⌝ }
 {
-    if length < width { 0 } else { width }
+    if room < width { 0 } else { width }
 }
 
 #[no_mangle]
