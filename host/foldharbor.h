@@ -37,7 +37,8 @@
  *   }
  *
  * A desk takes 7,200 ticks, 12 minutes; then each tick is refused with FOLDHARBOR_FULL_JOURNAL, until a step back, a
- * restart or another opening.
+ * restart or another opening. While ticks are refused no time passes on the desk: a host that goes on driving so has to
+ * open the valve by itself.
  *
  * Every call returns, whatever is handed over: any number, any struct and any bytes. What does not fit is refused with
  * a number (the four calls on the bytes of a card or an answer give zeros), and a refused call changes nothing. What is
