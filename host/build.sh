@@ -7,17 +7,28 @@
 set -eu
 
 [ $# != 1 ] || { echo "usage: sh host/build.sh [OUT SOURCES..]" >&2; exit 2; }
-crate=foldharbor # the one whose archive it is
+objects="foldharbor foldharbor_back foldharbor_exercise" # of the archive, and the crates that they are made of
 here=$(CDPATH='' cd -- "$(dirname -- "$0")" && pwd)
 root=$(dirname -- "$here")
-archive=$root/target/staticlib/lib$crate.a
+machine=$(uname -m)
+archive=$root/target/archive/libfoldharbor.a
+# the kit's tools and libraries for this machine
+kit() { echo "$(dirname -- "$(dirname -- "$(rt doc)")")/on/$machine/toolchain"; }
+
 if [ -z "${LIBRARY-}" ] && { [ ! -f "$archive" ] || [ -n "$(find "$root/crates" "$root/crates.txt" -newer "$archive")" ]; }; then
     echo "the archive is missing or older than a source: it is proved and made first" >&2
-    bash "$root/prove.sh" staticlib "$crate"
+    rm -rf -- "$root/target/archive"
+    for crate in $objects; do
+        bash "$root/prove.sh" staticlib "$crate"
+    done
+    mkdir -p -- "$root/target/archive"
+    for crate in $objects; do
+        "$(kit)/bin/llvm-ar" qcL "$archive.part" "$root/target/staticlib/lib$crate.a"
+    done
+    mv -- "$archive.part" "$archive"
 fi
 [ $# != 0 ] || exit 0
 
-machine=$(uname -m)
 [ "$machine" = x86_64 ] && compiler=${CC:-cc} || compiler=${CC:-clang}
 command -v "${compiler%% *}" >/dev/null || { echo "no compiler $compiler: install it, or name yours by CC=.." >&2; exit 2; }
 out=$1
@@ -38,9 +49,9 @@ if [ "$machine" = x86_64 ]; then
 fi
 
 # Elsewhere the program is made for x86-64 too, with the machine's headers and the kit's start files and libc.
-kit=$(dirname -- "$(dirname -- "$(rt doc)")")/on/$machine/toolchain
+kit=$(kit)/lib
 # shellcheck disable=SC2086
 exec $compiler --target=x86_64-linux-gnu -fuse-ld=lld -nostdlib -pie -fPIC -DEMULATED \
     -isystem "/usr/include/$machine-linux-gnu" "$@" \
-    "$kit/lib/Scrt1.o" "$kit/lib/crti.o" "$kit/lib/crtbeginS.o" \
-    "$kit/lib/libc.so.6" "$kit/lib/libc_nonshared.a" "$kit/lib/crtendS.o" "$kit/lib/crtn.o"
+    "$kit/Scrt1.o" "$kit/crti.o" "$kit/crtbeginS.o" \
+    "$kit/libc.so.6" "$kit/libc_nonshared.a" "$kit/crtendS.o" "$kit/crtn.o"

@@ -16,7 +16,7 @@ number=$(sed -n 's/^#define FOLDHARBOR_VERSION \([0-9]*\)$/\1/p' "$here/foldharb
 to=${DESTDIR-}$prefix
 umask 022
 mkdir -p -- "$to/lib/pkgconfig" "$to/include" || exit 2
-install -T -m 644 -- "$here/../target/staticlib/libfoldharbor.a" "$to/lib/libfoldharbor.a" || exit 2
+install -T -m 644 -- "$here/../target/archive/libfoldharbor.a" "$to/lib/libfoldharbor.a" || exit 2
 install -T -m 644 -- "$here/foldharbor.h" "$to/include/foldharbor.h" || exit 2
 cat >"$to/lib/pkgconfig/foldharbor.pc" <<PC || exit 2
 prefix=$prefix

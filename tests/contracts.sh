@@ -1,11 +1,16 @@
 #!/usr/bin/env bash
 # Wrong builds that their own crates prove, since definition, contract and code were changed alike: crate `demands` has to refuse each of them.
-# They stand together in one copy of the crates, each caught by a law of its own; crates below them are taken over as they were proved.
+# They stand together in two copies of the crates, each caught by a law of its own; crates below them are taken over as they were proved.
 set -u
 cd "$(dirname "$0")/.." || exit 1
-tree=target/contracts
-rm -rf "$tree"
-mkdir -p "$tree/target" && cp -r crates crates.txt "$tree" && cp -r target/rlib target/stamp "$tree/target" || exit 1
+wrong=0
+
+# copy NAME: a copy of the crates, to be changed
+copy() {
+    tree=target/contracts/$1
+    rm -rf "$tree"
+    mkdir -p "$tree/target" && cp -r crates crates.txt "$tree" && cp -r target/rlib target/stamp "$tree/target" || exit 1
+}
 
 # change FILE SED..: the file has to change
 change() {
@@ -13,7 +18,53 @@ change() {
     rm "$tree/crates/$1.was"
 }
 
-# a step back that restarts, and may write the journal as it likes, which a law of `desk` and one of `foldharbor` would refuse
+# refused CRATES LAWS: the crates are proved, and each of the laws is broken
+refused() {
+    local crate law
+    (cd "$tree" && rt check demands) >"$tree/log" 2>&1
+    for crate in $1; do
+        grep -q "^rt: $crate proved" "$tree/log" || { echo "$crate is not proved"; wrong=1; }
+    done
+    for law in $2; do
+        grep "demands/proofs/${law%:*}\.antt:.* error: \`${law#*:}\`" "$tree/log" | grep -qv 'was not admitted' || { echo "not refused: ${law#*:}"; wrong=1; }
+    done
+}
+
+# ---- exported calls that are not the functions': one for each
+copy exports
+# an opening that begins the opened desk anew, and so refuses as a restart does
+change foldharbor/src/lib.rt '/fn foldharbor_open(/,/^}$/{s/openOutcome card/restartOutcome (& .desk)/; s/Desk::open(card)/let opened = &.desk; opened.restart()/}'
+change foldharbor/proofs/foldharbor_open/Proof.antt '/^returns :/i\
+restart-requires : tie.Need-restart-requires\
+restart-requires c κs = search needs\
+' -e 's/^returns c = .*/returns c = rw (← c .before .before .«open» .ensures) (c .restart .ensures)/; s/spec open-requires/& restart-requires/'
+# a tick that leaves the answer of the tick before
+change foldharbor/src/lib.rt 's/{openOutcome,/& backOutcome,/' \
+    -e 's/x ≡ \(tickOutcome desk sample (now (journal \.entry))\)/x ≡ record { desk = \1 .desk; answer = backOutcome desk 0 (now (journal .entry)) .answer; refusal = \1 .refusal }/' \
+    -e 's/^    desk\.tick(sample, journal)/let old = desk.step_back(0, journal).answer; let mut out = desk.tick(sample, journal); out.answer = old; out/'
+change foldharbor/proofs/foldharbor_tick/Proof.antt '/^tick-requires :/i\
+step-back-requires : tie.Need-step-back-requires\
+step-back-requires c κs = search needs\
+' -e 's/spec tick-requires/spec step-back-requires tick-requires/' -e '/^returns c = /c\
+returns c =\
+    let tick = c .before .before .tick .ensures in\
+    (rw (← tick .0, ← c .before .before .before .before .before .step-back .ensures), tick .1)'
+# a step back that is handed 16 bits of k
+change foldharbor_back/src/lib.rt 's/desk k /desk (k % 65536) /; s/(k,/(k % 65536,/; s/^ghost use mathlib.*/&\nghost use Prim.Native.Nat.{_%_};/'
+rm -r "$tree/crates/foldharbor_back/proofs/foldharbor_step_back"
+# a restart that opens a desk of the card, and so refuses as an opening does
+change foldharbor/src/lib.rt '/fn foldharbor_restart(/,/^}$/{s/restartOutcome desk/openOutcome (desk .card)/; s/desk\.restart()/Desk::open(desk.card)/}'
+rm -r "$tree/crates/foldharbor/proofs/foldharbor_restart"
+# a reader that counts the runs as ticks
+change foldharbor_exercise/src/lib.rt 's/file::read(exercise)/let mut counts = &; let runs = counts.runs; counts.ticks = runs; counts/' \
+    -e 's/x ≡ \(readOutcome (now (exercise \.entry))\)/x ≡ record { refusal = \1 .refusal; cards = \1 .cards; runs = \1 .runs; ticks = \1 .runs }/'
+change foldharbor_exercise/proofs/foldharbor_read_exercise/Proof.antt 's/^returns c = .*/returns c = rw (← c .read .ensures)/'
+refused "foldharbor foldharbor_back foldharbor_exercise" \
+    "Functions:same-opens Functions:same-ticks Functions:same-steps-back Functions:same-restarts Functions:same-reads Functions:exported-same"
+
+# ---- functions and their exports that are alike, and wrong
+copy functions
+# a step back that restarts, and may write the journal as it likes, which a law of `desk` and one of `foldharbor_back` would refuse
 change desk/proofs/Determined.antt '/^pub step-back-reads /d; /^step-back-reads /d'
 change desk/src/lib.rt '/pub fn step_back(/,/^    }$/c\
     pub fn step_back(self, k: u32, journal: \&mut [u8]) -> Outcome\
@@ -21,13 +72,9 @@ change desk/src/lib.rt '/pub fn step_back(/,/^    }$/c\
     {\
         self.restart()\
     }'
-change foldharbor/proofs/Determined.antt '/^pub step-back-reads /d; /^step-back-reads /d'
-change foldharbor/src/lib.rt '/fn foldharbor_step_back(/,/^}$/{s/&\[u8\]/\&mut [u8]/; s/backOutcome desk k .*entry))/restartOutcome desk/}'
-rm -r "$tree/crates/desk/proofs/Desk/step_back" "$tree/crates/foldharbor/proofs/foldharbor_step_back"
-
-# an exported restart that opens a desk of the card, and so refuses as an opening does
-change foldharbor/src/lib.rt '/fn foldharbor_restart(/,/^}$/{s/restartOutcome desk/openOutcome (desk .card)/; s/desk\.restart()/Desk::open(desk.card)/}'
-rm -r "$tree/crates/foldharbor/proofs/foldharbor_restart"
+change foldharbor_back/proofs/Determined.antt '/^pub step-back-reads /d; /^step-back-reads /d'
+change foldharbor_back/src/lib.rt 's/&\[u8\]/\&mut [u8]/; s/backOutcome desk k .*entry))/restartOutcome desk/; s/{backOutcome}/{restartOutcome}/'
+rm -r "$tree/crates/desk/proofs/Desk/step_back" "$tree/crates/foldharbor_back/proofs/foldharbor_step_back"
 
 # mode 1 in the desk of a refused opening
 change desk/src/lib.rt 's/state\.mode = 0;/state.mode = 1;/'
@@ -49,14 +96,8 @@ change rules/src/lib.rt '/^        answer\.lowest,$/{N;s/lowest,\(.*\)held,/held
 change rules/specs/Answer.antt 's/answer \.lowest ∷ answer \.held/answer .held ∷ answer .lowest/' \
     -e 's/(at + 6)/(at + 8)/; s/(at + 7)/(at + 6)/; s/(at + 8)/(at + 7)/'
 
-(cd "$tree" && rt check demands) >"$tree/log" 2>&1
-wrong=0
-for crate in rules journal desk exercise foldharbor; do
-    grep -q "^rt: $crate proved" "$tree/log" || { echo "$crate is not proved"; wrong=1; }
-done
-# the law that each of them breaks
-for law in Functions:same-restarts Functions:steps-back-is Functions:steps-back-reads Demand1:open-no Refusals:desk-first Demand3:room-for Valve:each; do
-    grep "demands/proofs/${law%:*}\.antt:.* error: \`${law#*:}\`" "$tree/log" | grep -qv 'was not admitted' || { echo "not refused: ${law#*:}"; wrong=1; }
-done
-[ $wrong = 1 ] || rm -r "$tree"
+refused "rules journal desk exercise foldharbor foldharbor_back foldharbor_exercise" \
+    "Functions:steps-back-is Functions:steps-back-reads Demand1:open-no Refusals:desk-first Demand3:room-for Valve:each"
+
+[ $wrong = 1 ] || rm -r target/contracts
 exit $wrong

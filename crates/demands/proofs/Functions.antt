@@ -21,7 +21,7 @@ use Rattle.file.specs.declared.Counts.{Counts}
 use Rattle.file.specs.declared.Total.{Total}
 use Rattle.file.specs.Read.{readOutcome}
 use Rattle.exercise.specs.Run.{exerciseOutcome, exerciseBuffer}
-use Rattle.foldharbor.specs.Exercise.{hostNumber}
+use Rattle.foldharbor_exercise.specs.Exercise.{hostNumber}
 use Rattle.desk.proofs.Desk.open.Reads as opening
 use Rattle.desk.proofs.Desk.tick as tickCall
 use Rattle.desk.proofs.Desk.tick.Reads as ticking
@@ -35,13 +35,13 @@ use Rattle.exercise.proofs.run.Reads as running
 use Rattle.foldharbor.proofs.foldharbor_open.Reads as exportedOpening
 use Rattle.foldharbor.proofs.foldharbor_tick as exportedTickCall
 use Rattle.foldharbor.proofs.foldharbor_tick.Reads as exportedTicking
-use Rattle.foldharbor.proofs.foldharbor_step_back as exportedBackCall
-use Rattle.foldharbor.proofs.foldharbor_step_back.Reads as exportedBacking
+use Rattle.foldharbor_back.proofs.foldharbor_step_back as exportedBackCall
+use Rattle.foldharbor_back.proofs.foldharbor_step_back.Reads as exportedBacking
 use Rattle.foldharbor.proofs.foldharbor_restart.Reads as exportedRestarting
-use Rattle.foldharbor.proofs.foldharbor_read_exercise as exportedReadCall
-use Rattle.foldharbor.proofs.foldharbor_read_exercise.Reads as exportedReading
-use Rattle.foldharbor.proofs.foldharbor_run_exercise as hostCall
-use Rattle.foldharbor.proofs.foldharbor_run_exercise.Reads as hosting
+use Rattle.foldharbor_exercise.proofs.foldharbor_read_exercise as exportedReadCall
+use Rattle.foldharbor_exercise.proofs.foldharbor_read_exercise.Reads as exportedReading
+use Rattle.foldharbor_exercise.proofs.foldharbor_run_exercise as hostCall
+use Rattle.foldharbor_exercise.proofs.foldharbor_run_exercise.Reads as hosting
 use Rattle.demands.specs.Functions.{Functions}
 use Rattle.demands.specs.Demand1.{Returning}
 

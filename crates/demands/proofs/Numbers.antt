@@ -17,7 +17,7 @@ use Rattle.file.specs.Read.{tickCount, readRefusal, readOutcome}
 use Rattle.file.proofs.Runs.{runs-each}
 use Rattle.exercise.specs.Run.{exerciseRefusal, exerciseOutcome}
 use Rattle.exercise.proofs.Outcome.{run-taken}
-use Rattle.foldharbor.specs.Exercise.{hostNumber}
+use Rattle.foldharbor_exercise.specs.Exercise.{hostNumber}
 
 pub tick-number : (d : Desk) (x : Sample) (journal : List ℕ) → tickOutcome d x journal .refusal ≡ tickRefusal d x journal
 tick-number d x journal = go (ℕ-discrete (tickRefusal d x journal) 0)

@@ -8,7 +8,7 @@ use Rattle.file.specs.Runs.{ticksTo, runFault, runsRefusal, tickRecord}
 use Rattle.file.specs.Read.{headRefusal, readRefusal, readOutcome}
 use Rattle.exercise.specs.Answers.{answers}
 use Rattle.exercise.specs.Run.{exerciseRefusal, exerciseOutcome, exerciseBuffer}
-use Rattle.foldharbor.specs.Exercise.{hostNumber}
+use Rattle.foldharbor_exercise.specs.Exercise.{hostNumber}
 use Rattle.examples.specs.Files.{files}
 use Rattle.examples.proofs.Calls.{calls-hold}
 

@@ -6,7 +6,7 @@ use lib.ListN.{set, take, length, replicate}
 use Rattle.file.specs.declared.Counts.{Counts}
 use Rattle.file.specs.Read.{headRefusal, readOutcome}
 use Rattle.exercise.specs.Run.{exerciseOutcome, exerciseBuffer}
-use Rattle.foldharbor.specs.Exercise.{hostNumber}
+use Rattle.foldharbor_exercise.specs.Exercise.{hostNumber}
 use Rattle.examples.specs.Rows.{Row}
 
 -- ---- parts of a file, byte by byte

@@ -11,8 +11,6 @@ use Rattle.numbers.proofs.Alike.{alike}
 use Rattle.foldharbor.proofs.foldharbor_version.Reads as versioning
 use Rattle.foldharbor.proofs.foldharbor_open.Reads as opening
 use Rattle.foldharbor.proofs.foldharbor_tick.Reads as ticking
-use Rattle.foldharbor.proofs.foldharbor_step_back as backCall
-use Rattle.foldharbor.proofs.foldharbor_step_back.Reads as backing
 use Rattle.foldharbor.proofs.foldharbor_restart.Reads as restarting
 use Rattle.foldharbor.proofs.foldharbor_card_at as cardReadCall
 use Rattle.foldharbor.proofs.foldharbor_card_at.Reads as cardReading
@@ -20,10 +18,6 @@ use Rattle.foldharbor.proofs.foldharbor_put_card.Reads as cardPutting
 use Rattle.foldharbor.proofs.foldharbor_answer_at as answerReadCall
 use Rattle.foldharbor.proofs.foldharbor_answer_at.Reads as answerReading
 use Rattle.foldharbor.proofs.foldharbor_put_answer.Reads as answerPutting
-use Rattle.foldharbor.proofs.foldharbor_read_exercise as readCall
-use Rattle.foldharbor.proofs.foldharbor_read_exercise.Reads as reading
-use Rattle.foldharbor.proofs.foldharbor_run_exercise as runCall
-use Rattle.foldharbor.proofs.foldharbor_run_exercise.Reads as running
 use Rattle.foldharbor.proofs.foldharbor_text as textCall
 use Rattle.foldharbor.proofs.foldharbor_text.Reads as telling
 
@@ -47,15 +41,6 @@ tick-asks-nothing κs a w = refl
 pub tick-determined : (κs : Lfts 1) (a : _) (x y : _) (s t : _) → ticking.Post κs a x s → ticking.Post κs a y t
     → (x ≡ y) × (now (s .1 .1 .0) ≡ now (t .1 .1 .0))
 tick-determined κs a x y s t p q = (alike (p .0) (q .0), alike (p .1) (q .1))
-
-pub step-back-asks-nothing : (κs : Lfts 1) (a : _) (w : World) → backing.requires κs a tt w ≡ emp (w .𝓤)
-step-back-asks-nothing κs a w = refl
-
-pub step-back-determined : (κs : Lfts 1) (a : _) (x y : _) (s t : _) → backing.Post κs a x s → backing.Post κs a y t → x ≡ y
-step-back-determined κs a x y s t p q = alike p q
-
-pub step-back-reads : (κs : Lfts 1) (a : _) (last : Lasts backCall.ended κs a) → now (atExit backCall.ended κs a last .1 .1 .0) ≡ now (a .1 .1 .0)
-step-back-reads κs a last = refl
 
 pub restart-asks-nothing : (κs : Lfts 0) (a : _) (w : World) → restarting.requires κs a tt w ≡ emp (w .𝓤)
 restart-asks-nothing κs a w = refl
@@ -96,27 +81,6 @@ put-answer-asks-nothing κs a w = refl
 pub put-answer-determined : (κs : Lfts 1) (a : _) (x y : _) (s t : _) → answerPutting.Post κs a x s → answerPutting.Post κs a y t
     → (x ≡ y) × (now (s .1 .0) ≡ now (t .1 .0))
 put-answer-determined κs a x y s t p q = (alike (p .0) (q .0), alike (p .1) (q .1))
-
--- ---- exercises
-pub read-asks-nothing : (κs : Lfts 1) (a : _) (w : World) → reading.requires κs a tt w ≡ emp (w .𝓤)
-read-asks-nothing κs a w = refl
-
-pub read-determined : (κs : Lfts 1) (a : _) (x y : _) (s t : _) → reading.Post κs a x s → reading.Post κs a y t → x ≡ y
-read-determined κs a x y s t p q = alike p q
-
-pub read-reads : (κs : Lfts 1) (a : _) (last : Lasts readCall.ended κs a) → now (atExit readCall.ended κs a last .0) ≡ now (a .0)
-read-reads κs a last = refl
-
-pub run-asks-nothing : (κs : Lfts 2) (a : _) (w : World) → running.requires κs a tt w ≡ emp (w .𝓤)
-run-asks-nothing κs a w = refl
-
--- `s .1 .1 .0` is the buffer, the third parameter, at exit
-pub run-determined : (κs : Lfts 2) (a : _) (x y : _) (s t : _) → running.Post κs a x s → running.Post κs a y t
-    → (x ≡ y) × (now (s .1 .1 .0) ≡ now (t .1 .1 .0))
-run-determined κs a x y s t p q = (alike (p .0) (q .0), alike (p .1) (q .1))
-
-pub run-reads : (κs : Lfts 2) (a : _) (last : Lasts runCall.ended κs a) → now (atExit runCall.ended κs a last .0) ≡ now (a .0)
-run-reads κs a last = refl
 
 -- ---- texts
 pub text-asks-nothing : (κs : Lfts 1) (a : _) (w : World) → telling.requires κs a tt w ≡ emp (w .𝓤)

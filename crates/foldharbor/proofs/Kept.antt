@@ -1,10 +1,9 @@
--- What a host keeps in a file is there again: a card or an answer that is put is read back, too few bytes give zeros and stay as they are, and a step back
--- looks at card and n alone, whatever the state is. From the laws of `card`, `rules`, `layout` and `desk`. Assumes nothing.
-use Prim.Native.Nat.{ℕ, _≤_, _<_}
+-- What a host keeps in a file is there again: a card or an answer that is put is read back, and too few bytes give zeros and stay as they are.
+-- From the laws of `card`, `rules` and `layout`. Assumes nothing.
+use Prim.Native.Nat.{_≤_, _<_}
 use native.Mathlib.Omega.{arith}
 use mathlib.Core.Path.{_≡_}
-use mathlib.Core.Bool.{true}
-use mathlib.Core.List.{List, flatMap}
+use mathlib.Core.List.{flatMap}
 use lib.ListN.{length}
 use denote.Ref.{now}
 use contract.Lifetimes.{Lfts}
@@ -16,9 +15,6 @@ use Rattle.card.proofs.Bytes as card
 use Rattle.rules.specs.declared.Answer.{Answer}
 use Rattle.rules.specs.Answer.{answerWidth, answerBytes, putAnswer, noAnswer}
 use Rattle.rules.proofs.Bytes as rules
-use Rattle.desk.specs.declared.Desk.{Desk}
-use Rattle.desk.specs.Desk.{deskInRange}
-use Rattle.desk.specs.Calls.{deskRefusal, backRefusal, backOutcome}
 use Rattle.foldharbor.specs.Bytes.{cardFrom, answerFrom, bytesPut}
 use Rattle.foldharbor.proofs.foldharbor_card_at.Reads as cardReading
 use Rattle.foldharbor.proofs.foldharbor_put_card.Reads as cardPutting
@@ -60,13 +56,3 @@ pub put-answer-of-few : (κs : Lfts 1) (a : Answer) (b r s : _) → answerPuttin
     → (r ≡ 0) × (now (s .1 .0) ≡ now b)
 unfolding bytesPut putAnswer
 put-answer-of-few κs a b r s put few = (rw (put .0, lt-ltb _ _ few), rw (put .1) (put-no (now b) 0 (answerBytes a) (lt-leb _ _ few)))
-
--- ---- a step back of two desks in range, of the same card and n
-module _ (d e : Desk) (good : deskInRange d ≡ true) (good-too : deskInRange e ≡ true) (cards : d .card ≡ e .card) (counts : d .n ≡ e .n) where
-  pub back-refused-alike : (k : ℕ) (journal : List ℕ) → backRefusal d k journal ≡ backRefusal e k journal
-  unfolding backRefusal deskRefusal
-  back-refused-alike k journal = rw (good, good-too, counts)
-
-  pub back-alike : (k : ℕ) (journal : List ℕ) → backRefusal d k journal ≡ 0 → backOutcome d k journal ≡ backOutcome e k journal
-  unfolding backOutcome
-  back-alike k journal taken = rw (← back-refused-alike k journal, taken, cards, counts)

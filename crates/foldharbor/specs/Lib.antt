@@ -1,3 +1,2 @@
 pub mod Version
 pub mod Bytes
-pub mod Exercise

@@ -1,20 +1,16 @@
-// The archive: the calls that a host program links. host/foldharbor.h declares them, and their structs, for C and C++.
+// The archive: the calls that a host program links, but for the step back and exercises. host/foldharbor.h declares them, and their structs, for C and C++.
 ghost use mathlib.Core.Path.{_≡_};
 ghost use lib.ListN.{length};
 ghost use Rattle.card.specs.Card.{cardWidth, putCard};
 ghost use Rattle.rules.specs.Answer.{answerWidth, putAnswer};
-ghost use Rattle.desk.specs.Calls.{openOutcome, tickOutcome, tickJournal, backOutcome, restartOutcome};
-ghost use Rattle.file.specs.Read.{readOutcome};
-ghost use Rattle.exercise.specs.Run.{exerciseOutcome, exerciseBuffer};
+ghost use Rattle.desk.specs.Calls.{openOutcome, tickOutcome, tickJournal, restartOutcome};
 ghost use Rattle.texts.specs.Text.{chosen, textPlace};
 ghost use Rattle.foldharbor.specs.Version.{version};
 ghost use Rattle.foldharbor.specs.Bytes.{cardFrom, answerFrom, bytesPut};
-ghost use Rattle.foldharbor.specs.Exercise.{hostNumber};
 use card::CARD_WIDTH;
 use card::Card;
 use desk::Desk;
 use desk::Outcome;
-use file::Counts;
 use record::Sample;
 use rules::ANSWER_WIDTH;
 use rules::Answer;
@@ -22,9 +18,6 @@ use texts::Place;
 
 // Of this archive and of the header that goes with it.
 const VERSION: u32 = 10000;
-
-// An exercise that is refused gives this plus the number of the refusal.
-const REFUSED: u32 = 10000;
 
 // How many of `width` bytes are put where there are `room`: all or none.
 fn bytes_put(width: usize, room: usize) -> usize
@@ -53,13 +46,6 @@ pub extern "C" fn foldharbor_tick(desk: Desk, sample: Sample, journal: &mut [u8]
     ensures journal { λ x. ⌜ now (journal .exit) ≡ tickJournal desk sample (now (journal .entry)) ⌝ }
 {
     desk.tick(sample, journal)
-}
-
-#[no_mangle]
-pub extern "C" fn foldharbor_step_back(desk: Desk, k: u32, journal: &[u8]) -> Outcome
-    ensures { λ x. ⌜ x ≡ backOutcome desk k (now (journal .entry)) ⌝ }
-{
-    desk.step_back(k, journal)
 }
 
 #[no_mangle]
@@ -107,25 +93,6 @@ pub extern "C" fn foldharbor_put_answer(answer: Answer, bytes: &mut [u8]) -> usi
     let count = bytes_put(ANSWER_WIDTH, bytes.len());
     rules::put_answer(bytes, 0, answer);
     count
-}
-
-#[no_mangle]
-pub extern "C" fn foldharbor_read_exercise(exercise: &[u8]) -> Counts
-    ensures { λ x. ⌜ x ≡ readOutcome (now (exercise .entry)) ⌝ }
-{
-    file::read(exercise)
-}
-
-#[no_mangle]
-pub extern "C" fn foldharbor_run_exercise(exercise: &[u8], card: u32, answers: &mut [u8]) -> u32
-    ensures number { λ r. ⌜ r ≡ hostNumber (exerciseOutcome (now (exercise .entry)) card (length (now (answers .entry)))) ⌝ }
-    ensures answers { λ r. ⌜ now (answers .exit) ≡ exerciseBuffer (now (exercise .entry)) card (now (answers .entry)) ⌝ }
-{
-    let ran = exercise::run(exercise, card, answers);
-    if ran.refusal != 0 {
-        return REFUSED + (ran.refusal as u32);
-    }
-    ran.ticks as u32
 }
 
 // A text's place and not the text: an exported function can't return a reference.

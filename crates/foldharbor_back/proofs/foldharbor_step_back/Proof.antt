@@ -1,7 +1,7 @@
 -- `foldharbor_step_back` returns what `Desk::step_back` returns: the contracts are the same.
 use borrow.Author.Needs.{needs}
-use Rattle.foldharbor.proofs.foldharbor_step_back.Statement.{statement}
-use Rattle.foldharbor.proofs.foldharbor_step_back.Tie as tie
+use Rattle.foldharbor_back.proofs.foldharbor_step_back.Statement.{statement}
+use Rattle.foldharbor_back.proofs.foldharbor_step_back.Tie as tie
 
 step-back-requires : tie.Need-step-back-requires
 step-back-requires c κs = search needs

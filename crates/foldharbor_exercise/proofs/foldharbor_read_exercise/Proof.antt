@@ -1,7 +1,7 @@
 -- `foldharbor_read_exercise` returns what `file::read` returns: the contracts are the same.
 use borrow.Author.Needs.{needs}
-use Rattle.foldharbor.proofs.foldharbor_read_exercise.Statement.{statement}
-use Rattle.foldharbor.proofs.foldharbor_read_exercise.Tie as tie
+use Rattle.foldharbor_exercise.proofs.foldharbor_read_exercise.Statement.{statement}
+use Rattle.foldharbor_exercise.proofs.foldharbor_read_exercise.Tie as tie
 
 read-requires : tie.Need-read-requires
 read-requires c κs = search needs

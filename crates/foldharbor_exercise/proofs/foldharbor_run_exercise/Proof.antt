@@ -1,9 +1,9 @@
 -- `foldharbor_run_exercise` meets its contract: the outcome and the buffer by the contract of `run`, each return by its refusal.
-use Rattle.foldharbor.specs.Exercise.{hostNumber}
+use Rattle.foldharbor_exercise.specs.Exercise.{hostNumber}
 use borrow.Author.Tests.{eq-eqb, ne-eqb}
 use borrow.Author.Needs.{needs}
-use Rattle.foldharbor.proofs.foldharbor_run_exercise.Statement.{statement}
-use Rattle.foldharbor.proofs.foldharbor_run_exercise.Tie as tie
+use Rattle.foldharbor_exercise.proofs.foldharbor_run_exercise.Statement.{statement}
+use Rattle.foldharbor_exercise.proofs.foldharbor_run_exercise.Tie as tie
 
 run-requires : tie.Need-run-requires
 run-requires c κs = search needs
