@@ -180,7 +180,7 @@ echo "rt: file proved (3 s)"
 mkdir -p target/bin target/staticlib target/stamp
 cp "$HERE/target/bin/show" target/bin/show
 touch "target/stamp/$2"
-[ "$1" != staticlib ] || touch "target/staticlib/lib$2.a"
+[ "$1" != staticlib ] || echo "!<arch>" >"target/staticlib/lib$2.a" # an archive of nothing
 RT
 cat >"$tree/bin/compiler" <<'CC'
 #!/bin/sh
@@ -199,21 +199,24 @@ gives "show.sh, a source changed" 0 "$paper" "file proved (3 s)"
 rm "$tree/called"
 
 # the archive is made where it is missing and where a source is newer, and not else
-archive=$(sed -n 's/^crate=\([a-z]*\).*/\1/p' host/build.sh)
+objects=$(sed -n 's/^objects="\([^"]*\)".*/\1/p' host/build.sh)
+# shellcheck disable=SC2086
+made=$(printf 'staticlib %s\n' $objects)
 run made_up sh host/build.sh
-[ "$(cat "$tree/called")" = "staticlib $archive" ] || miss "build.sh does not make an archive that is missing"
+[ "$(cat "$tree/called")" = "$made" ] || miss "build.sh does not make an archive that is missing"
 run made_up sh host/build.sh
 gives "build.sh with an archive" 0 "" ""
-[ "$(wc -l <"$tree/called")" = 1 ] || miss "build.sh makes an archive that is there"
-touch -t 200001010000 "$tree/target/staticlib/lib$archive.a"
+[ "$(cat "$tree/called")" = "$made" ] || miss "build.sh makes an archive that is there"
+touch -t 200001010000 "$tree/target/archive/libfoldharbor.a"
+rm "$tree/called"
 CC="compiler -first" CFLAGS="-O0 -g" run made_up sh host/build.sh "a folder/a program" "-option" "a source.c"
-[ "$status" = 0 ] && [ "$(wc -l <"$tree/called")" = 2 ] || miss "build.sh does not make an archive that is older than a source"
+[ "$status" = 0 ] && [ "$(cat "$tree/called")" = "$made" ] || miss "build.sh does not make an archive that is older than a source"
 compiled=$(cat "$tree/compiled")
-[[ $compiled == *"-first "*"-O2 "*"-O0 -g "*"-option a source.c "*"lib$archive.a -o a folder/a program"* ]] || miss "build.sh calls: $compiled"
+[[ $compiled == *"-first "*"-O2 "*"-O0 -g "*"-option a source.c "*"libfoldharbor.a -o a folder/a program"* ]] || miss "build.sh calls: $compiled"
 CC=none run made_up sh host/build.sh a b
 gives "build.sh with no compiler" 2 "" "no compiler none: install it, or name yours by CC=.."
-FAIL=1 run made_up sh -c 'rm target/staticlib/*; sh host/build.sh a b'
-[ "$status" = 1 ] && grep -q "error: made up" "$room/err" || miss "build.sh goes on where the proof fails"
+FAIL=1 run made_up sh -c 'rm target/archive/*; sh host/build.sh a b'
+[ "$status" = 1 ] && [ ! -e "$tree/target/archive" ] && grep -q "error: made up" "$room/err" || miss "build.sh goes on where the proof fails"
 # what another header and archive are named for needs none of this tree
 rm "$tree/called"
 CC=compiler LIBRARY="-I there -L there -lfoldharbor" run made_up sh host/build.sh a b.c
