@@ -192,7 +192,7 @@ static bool same_drives(void)
 int main(void)
 {
 #ifdef EMULATED
-    printf("Under an emulator: the times say nothing, only the ratios mean anything.\n");
+    printf("Under an emulator: times and ratios are not those of hardware.\n");
 #endif
     make_exercise(MANY_RUNS, FOLDHARBOR_MOST_TICKS);
     if (!same_runs())
