@@ -60,6 +60,7 @@ command -v rt >/dev/null || { echo "rt, the kit's command, is not on the PATH"; 
 need cmp diffutils
 need g++ g++
 need pkg-config pkgconf
+need script bsdutils
 if [ "$(uname -m)" = x86_64 ]; then
     need cc gcc libc6-dev
 else
@@ -105,8 +106,8 @@ compile() {
 compile vectors vectors.c
 compile structs structs.c
 compile header header.c
-compile compare compare.c generate.c model.c
-compile drives drives.c both.c cases.c some.c fields.c generate.c model.c
+compile compare compare.c seen.c generate.c model.c
+compile drives drives.c both.c seen.c cases.c some.c fields.c generate.c model.c
 compile pieces pieces.c some.c fields.c generate.c model.c
 compile texts texts.c
 compile long long.c model.c
@@ -120,6 +121,7 @@ check "the exercise calls against the model" sh host/run.sh $made/compare
 check "the calls on a desk against the model" sh host/run.sh $made/drives
 check "cards and answers among bytes against the model" sh host/run.sh $made/pieces
 check "the text call against the model" sh host/run.sh $made/texts
+check "a turn of the benchmark" sh host/run.sh $made/bench 1
 check "long drives by the model" sh host/run.sh $made/long $made
 for length in 57599 57600 57608; do
     check "drive journal $made/long-$length.drive" with_journal $made/long-$length

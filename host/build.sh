@@ -13,7 +13,10 @@ root=$(dirname -- "$here")
 machine=$(uname -m)
 archive=$root/target/archive/libfoldharbor.a
 # the kit's tools and libraries for this machine
-kit() { echo "$(dirname -- "$(dirname -- "$(rt doc)")")/on/$machine/toolchain"; }
+kit() {
+    command -v rt >/dev/null || { echo "rt, the command of the Rattle kit, is not on the PATH: put the kit's folder bin there" >&2; exit 2; }
+    echo "$(dirname -- "$(dirname -- "$(rt doc)")")/on/$machine/toolchain"
+}
 
 if [ -z "${LIBRARY-}" ] && { [ ! -f "$archive" ] || [ -n "$(find "$root/crates" "$root/crates.txt" -newer "$archive")" ]; }; then
     echo "the archive is missing or older than a source: it is proved and made first" >&2
@@ -22,8 +25,9 @@ if [ -z "${LIBRARY-}" ] && { [ ! -f "$archive" ] || [ -n "$(find "$root/crates" 
         bash "$root/prove.sh" staticlib "$crate"
     done
     mkdir -p -- "$root/target/archive"
+    tools=$(kit)/bin
     for crate in $objects; do
-        "$(kit)/bin/llvm-ar" qcL "$archive.part" "$root/target/staticlib/lib$crate.a"
+        "$tools/llvm-ar" qcL "$archive.part" "$root/target/staticlib/lib$crate.a"
     done
     mv -- "$archive.part" "$archive"
 fi
@@ -49,9 +53,9 @@ if [ "$machine" = x86_64 ]; then
 fi
 
 # Elsewhere the program is made for x86-64 too, with the machine's headers and the kit's start files and libc.
-kit=$(kit)/lib
+libraries=$(kit)/lib
 # shellcheck disable=SC2086
 exec $compiler --target=x86_64-linux-gnu -fuse-ld=lld -nostdlib -pie -fPIC -DEMULATED \
     -isystem "/usr/include/$machine-linux-gnu" "$@" \
-    "$kit/Scrt1.o" "$kit/crti.o" "$kit/crtbeginS.o" \
-    "$kit/libc.so.6" "$kit/libc_nonshared.a" "$kit/crtendS.o" "$kit/crtn.o"
+    "$libraries/Scrt1.o" "$libraries/crti.o" "$libraries/crtbeginS.o" \
+    "$libraries/libc.so.6" "$libraries/libc_nonshared.a" "$libraries/crtendS.o" "$libraries/crtn.o"

@@ -24,6 +24,7 @@
  *
  *   static uint8_t journal[FOLDHARBOR_JOURNAL_BYTES];
  *   foldharbor_outcome out = foldharbor_open(card);
+ *   int refused = 0; // ticks in a row
  *
  *   if (out.refusal != 0)
  *       give_up(out.refusal);
@@ -33,19 +34,23 @@
  *           show(out.answer);
  *       else
  *           show_fault(out.refusal);
- *       set_valve(out.desk.state.causes != 0);
+ *       refused = out.refusal == 0 ? 0 : refused + 1;
+ *       set_valve(out.desk.state.causes != 0 || refused >= 10);
  *   }
  *
  * A desk takes 7,200 ticks, 12 minutes; then each tick is refused with FOLDHARBOR_FULL_JOURNAL, until a step back, a
  * restart or another opening. While ticks are refused no time passes on the desk: a host that goes on driving so has to
- * open the valve by itself.
+ * open the valve by itself, above after a second.
  *
  * Every call returns, whatever is handed over: any number, any struct and any bytes. What does not fit is refused with
- * a number (the four calls on the bytes of a card or an answer give zeros), and a refused call changes nothing. What is
- * asked of a host is only that each pointer is good for its length, not null even if the length is 0, and that bytes
- * which a call writes do not overlap bytes which it reads. Nothing is kept from one call to the next, and no call
- * waits, allocates or reads a clock: threads may call at the same time, while nobody else writes what a call reads or
- * touches what it writes.
+ * a number (the four calls on the bytes of a card or an answer give zeros), and a refused call changes nothing. Nothing
+ * is kept from one call to the next, and no call waits, allocates or reads a clock: threads may call at the same time,
+ * while nobody else writes what a call reads or touches what it writes. What is asked of a host is only
+ * - that each pointer is good for its length, not null even if the length is 0;
+ * - that bytes which a call writes do not overlap bytes which it reads;
+ * - for a tick, that floats are dealt with as at the start of a C program. Where a host lets a NaN trap, as by
+ *   feenableexcept, the call may not return, and where it has numbers next to zero taken as zero, as -ffast-math may, a
+ *   speed or a pressure just below zero is not refused.
  */
 #ifndef FOLDHARBOR_H
 #define FOLDHARBOR_H
@@ -110,7 +115,7 @@ enum { /* sizes in bytes, and limits */
     FOLDHARBOR_HEADER_BYTES = 10, /* of an exercise file */
     FOLDHARBOR_RUN_BYTES = 2 + FOLDHARBOR_RECORD_BYTES,
     FOLDHARBOR_MOST_CARDS = 8, /* in an exercise file, and at least one */
-    FOLDHARBOR_MOST_RUNS = 6000,
+    FOLDHARBOR_MOST_RUNS = 6000, /* in an exercise file; none is good too */
     FOLDHARBOR_MOST_BYTES = FOLDHARBOR_HEADER_BYTES + FOLDHARBOR_MOST_CARDS * FOLDHARBOR_CARD_BYTES +
                             FOLDHARBOR_MOST_RUNS * FOLDHARBOR_RUN_BYTES, /* of the longest exercise file */
     FOLDHARBOR_MOST_MESSAGES = 64, /* in a table of texts */
@@ -184,10 +189,10 @@ typedef struct foldharbor_sample {
  * - A new code with a T below the old signal speed begins a braking curve, which falls from the old signal speed,
  *   whatever P is, by the card's deceleration down to T. So P may stand for a while though the curve runs.
  * - MAN, where the driver brakes on his own responsibility, begins by a press of MAN or by adhesion loss while a curve
- *   runs, which it ends; and in place of a curve where the code after more than 5 s without one has a lower T than the
- *   code before had. The signal speed is then the train's speed as it falls, and not below 1200. While MAN stays on a
- *   new code begins no curve. It ends at speeds up to T while the code stays, and by a new code with a T above the
- *   train's speed.
+ *   runs, which it ends; and where the code after more than 5 s without one has a lower T than the code before those
+ *   has without PLUS, and then no curve begins. The signal speed is then the train's speed as it falls, and not below
+ *   1200. While MAN stays on a new code begins no curve. It ends at speeds up to T while the code stays, and by a new
+ *   code with a T above the train's speed.
  */
 enum { /* bits of an answer's marks */
     FOLDHARBOR_MARK_MAN = 1 << 0,             /* MAN is on */
@@ -449,8 +454,8 @@ typedef struct foldharbor_place {
  *   language        which of them is the chosen one, 1 or 2
  *   message         which message, counted from 0
  *
- * Returns the text's place in the chosen table, which is judged as a whole in each call. The other table has no
- * influence and may be bad. Neither is ever changed. With table for the chosen one, the text is printed by
+ * Returns the text's place in the chosen table, which is judged as a whole in each call. The bytes of the other have no
+ * influence and may be any. Neither is ever changed. With table for the chosen one, the text is printed by
  *
  *   printf("%.*s", place.end - place.start, (const char *)table + place.start);
  *

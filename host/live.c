@@ -7,9 +7,10 @@
  * a tick: one that is no key, such as a dot, stands for none, and behind the last one the drive goes on without keys.
  * Back and restart act just before their tick is played. The train goes back with the desk, so that the same keys then
  * give the same lines again. A terminal shows one line, written anew; into a file or a pipe goes a line for each tick.
+ * Where ticks stay refused for a second, no protection is left: then the host opens the valve, until one is accepted.
  *
- * Ends with 0, or with 2 where the words make no sense, the input can't be read or the output can't be written. However
- * it ends, by a signal too, the terminal is then as it was.
+ * Ends with 0; with 2 where the words make no sense, the input can't be read or the output can't be written; or, in a
+ * terminal, with 128 and the number of the signal that ended it (INT, TERM, HUP, QUIT), the terminal being as it was.
  */
 #define _POSIX_C_SOURCE 200809L
 #include <errno.h>
@@ -30,6 +31,7 @@
 enum {
     DRIVE_TICKS = 600,
     BACK_TICKS = 300,
+    MOST_REFUSED = 10, /* ticks in a row, then the host opens the valve */
     TICK_NANOSECONDS = 100000000,
     SECOND_NANOSECONDS = 1000000000
 };
@@ -69,6 +71,7 @@ static const struct part parts[] = {
 
 static uint8_t journal[FOLDHARBOR_JOURNAL_BYTES];
 static uint32_t speeds[DRIVE_TICKS + 1]; /* of the train at each tick, so that it can go back with the desk */
+static uint32_t refused;                 /* ticks in a row, up to the last one */
 static char keys[64];                    /* that act in this tick; zeros are none */
 static bool keyboard, screen;            /* whether input and output are a terminal */
 static struct termios terminal_before;
@@ -92,7 +95,7 @@ static const struct part *part_at(uint32_t tick)
 
 static bool valve_is_open(const foldharbor_desk *desk)
 {
-    return desk->state.causes != 0;
+    return desk->state.causes != 0 || refused >= MOST_REFUSED;
 }
 
 static uint32_t slower(uint32_t speed, uint32_t loss, uint32_t least)
@@ -209,10 +212,15 @@ static foldharbor_desk play_tick(foldharbor_desk desk)
 {
     foldharbor_outcome out = foldharbor_tick(desk, take_readings(&desk), journal, sizeof journal);
 
+    refused = out.refusal == 0 ? 0 : refused + 1;
     if (is_accepted(&out, "tick")) {
         speeds[out.desk.n] = speed_after(speeds[desk.n], part_at(desk.n)->wanted, valve_is_open(&out.desk));
         show(&out);
+    } else if (refused >= MOST_REFUSED) { /* no time passes on the desk, but the train brakes */
+        speeds[desk.n] = slower(speeds[desk.n], LOSS_BY_VALVE, 0);
     }
+    if (refused == MOST_REFUSED)
+        puts("no reading for a second: the host opens the valve");
     return out.desk;
 }
 
@@ -260,7 +268,7 @@ static void restore_terminal(void)
     tcsetattr(STDIN_FILENO, TCSAFLUSH, &terminal_before);
 }
 
-/* Has each signal that would end the program at once end the drive, so that the terminal is restored. */
+/* Has the signals that a terminal or a user sends end the drive, and not the program at once. */
 static void catch_signals(void)
 {
     struct sigaction action = {.sa_handler = end_drive};

@@ -1,13 +1,7 @@
 #!/usr/bin/env bash
 # Whether host/foldharbor.h is taken as C and as C++ without a word, by each compiler that is there, and whether a C++ host calls the archive.
 cd "$(dirname -- "$0")/.." || exit 1
-room=$(mktemp -d)
-trap 'rm -rf "$room"' EXIT
-missed=0
-miss() {
-    echo "$1"
-    missed=1
-}
+. tests/begin.sh
 taken=""
 
 # try COMPILER LANGUAGE STANDARD..: compiles every call
@@ -29,4 +23,4 @@ try clang++ c++ c++98 c++11 c++17 c++20
 # no C++ library is linked: on Arm there is none for x86-64
 sh host/build.sh "$room/calls" -x c++ -std=c++17 -fno-exceptions -fno-rtti host/tests/calls.c -x none || miss "no C++ host is made"
 sh host/run.sh "$room/calls" || miss "the C++ host fails"
-exit $missed
+[ ! -e "$room/missed" ]

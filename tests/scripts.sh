@@ -3,13 +3,7 @@
 # can't be written, an input that ends or fails. What the scripts do while something is proved shows in a made-up tree with a made-up `rt`.
 cd "$(dirname -- "$0")/.." || exit 1
 here=$PWD
-room=$(mktemp -d)
-trap 'rm -rf "$room"' EXIT
-missed=0
-miss() {
-    echo "$1"
-    missed=1
-}
+. tests/begin.sh
 
 # run COMMAND.., then gives WHAT STATUS OUT ERR: whether it ended with that status and wrote that, and nothing else, to the two outputs
 run() {
@@ -241,4 +235,4 @@ fi
 for script in ./*.sh host/*.sh texts/*.sh tests/*.sh docs/*.sh .ci/run; do
     bash -n "$script" || miss "$script does not parse"
 done
-exit $missed
+[ ! -e "$room/missed" ]

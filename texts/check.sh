@@ -1,13 +1,7 @@
 #!/usr/bin/env bash
 # Whether the texts fit together, and whether the programs `table` and `messages`, which are built, do what they say with them and with bad ones.
 cd "$(dirname "$0")/.." || exit 1
-room=$(mktemp -d)
-trap 'rm -rf "$room"' EXIT
-# a file, since what a pipe runs can't set a variable
-miss() {
-    echo "$1"
-    touch "$room/missed"
-}
+. tests/begin.sh
 program() { sh host/run.sh "target/bin/$1" "${@:2}"; }
 
 # ---- the files: line for line the same messages, listed in README.md from 0 on, composed, nothing but text

@@ -1,10 +1,13 @@
 /*
  * Measures the calls against the model in one process, on the same exercises and on the same drive.
  * The two take turns and the best turn of each counts, so that other work on the machine weighs on neither.
+ *
+ *   bench [TURNS]
  */
 #define _POSIX_C_SOURCE 200809L
 #include <stdbool.h>
 #include <stdio.h>
+#include <stdlib.h>
 #include <string.h>
 #include <time.h>
 
@@ -19,12 +22,14 @@ enum {
     MANY_RUNS = 2000,
     DRIVE_TICKS = 7000,
     STRUCK = 10, /* ticks, by the step back */
-    TURNS = 400,
+    DEFAULT_TURNS = 400,
     CALLS_A_TURN = 4,
     READER_CALLS_A_TURN = 40 /* reading takes far less than running */
 };
 
 typedef void work(void);
+
+static long turns = DEFAULT_TURNS;
 
 static uint8_t exercise[FOLDHARBOR_MOST_BYTES];
 static size_t exercise_length;
@@ -62,7 +67,7 @@ static void measure(const char *what, work *of_call, work *of_model, int times, 
 {
     double best_of_call = 1e18, best_of_model = 1e18;
 
-    for (int i = 0; i < TURNS; i++) {
+    for (long i = 0; i < turns; i++) {
         double call = turn(of_call, times);
         double model = turn(of_model, times);
 
@@ -94,7 +99,6 @@ static void read_by_model(void)
     returned_by_model = model_run_exercise(exercise, exercise_length, 1, answers_of_model, 0);
 }
 
-/* Times of calls that do different work say nothing, so the results are compared first. */
 static bool same_runs(void)
 {
     run_by_call();
@@ -189,23 +193,32 @@ static bool same_drives(void)
            memcmp(journal_of_call, journal_of_model, sizeof journal_of_call) == 0;
 }
 
-int main(void)
+/* Times of calls that do different work say nothing. */
+static int differ(void)
 {
+    puts("call and model differ: no times");
+    return 1;
+}
+
+int main(int count, char **arguments)
+{
+    if (count > 1)
+        turns = atol(arguments[1]);
 #ifdef EMULATED
     printf("Under an emulator: times and ratios are not those of hardware.\n");
 #endif
     make_exercise(MANY_RUNS, FOLDHARBOR_MOST_TICKS);
     if (!same_runs())
-        return 1;
+        return differ();
     measure("7,200 ticks in 2,000 runs, a tick:", run_by_call, run_by_model, CALLS_A_TURN, FOLDHARBOR_MOST_TICKS);
     measure("the reader alone on 2,000 runs, a run:", read_by_call, read_by_model, READER_CALLS_A_TURN, MANY_RUNS);
     make_one_run();
     if (!same_runs())
-        return 1;
+        return differ();
     measure("7,200 ticks in one run, a tick:", run_by_call, run_by_model, CALLS_A_TURN, FOLDHARBOR_MOST_TICKS);
     make_drive();
     if (!same_drives())
-        return 1;
+        return differ();
     measure("a drive of 7,000 ticks, a tick:", drive_by_call, drive_by_model, CALLS_A_TURN, DRIVE_TICKS);
     measure("a step back by 10 from there, a tick left:", step_back_by_call, step_back_by_model, CALLS_A_TURN,
             DRIVE_TICKS - STRUCK);

@@ -7,6 +7,7 @@
 
 #include "fields.h"
 #include "model.h"
+#include "seen.h"
 #include "some.h"
 
 enum {
@@ -38,14 +39,7 @@ static size_t laid;                   /* their length */
 static struct handed handed;
 static uint64_t calls, different;
 
-/* How often each thing was seen in what was compared. */
 static uint64_t refusals_seen[CALLS][UINT8_MAX + 1]; /* by number; 0 counts what was accepted */
-static uint64_t marks_seen[UINT8_MAX + 1];           /* by the whole byte of an answer */
-static uint64_t causes_seen[UINT8_MAX + 1];
-static uint64_t lowest_seen[UINT8_MAX + 1];
-static uint64_t held_seen[UINT8_MAX + 1];
-static uint64_t modes_seen[UINT8_MAX + 1]; /* ticks in the mode that the desk held */
-static uint64_t codes_seen[UINT8_MAX + 1]; /* ticks under the code in PRE */
 
 static void print_desk(const foldharbor_desk *desk, size_t fields)
 {
@@ -189,13 +183,11 @@ static void tally(const foldharbor_outcome *outcome)
     refusals_seen[handed.call][outcome->refusal]++;
     if (handed.call != TICK || outcome->refusal != 0)
         return;
-    marks_seen[outcome->answer.marks]++;
-    causes_seen[outcome->answer.causes]++;
-    lowest_seen[outcome->answer.lowest]++;
-    held_seen[outcome->answer.held]++;
-    modes_seen[outcome->desk.state.mode]++;
-    if (outcome->desk.state.mode == MODE_PRE)
-        codes_seen[outcome->desk.state.signal.codes.last]++;
+    const foldharbor_state *state = &outcome->desk.state;
+    const foldharbor_answer *answer = &outcome->answer;
+
+    tally_ticks(state->mode, state->signal.codes.last, 1);
+    tally_answer(answer->marks, answer->causes, answer->lowest, answer->held);
 }
 
 /* Zeros and the desk handed in, whatever the model says; of a refused opening a desk of zeros. */
@@ -262,12 +254,6 @@ uint64_t differences(void)
     return different;
 }
 
-static bool report_seen(const char *what, uint64_t count)
-{
-    printf("  %-24s %12" PRIu64 "%s\n", what, count, count == 0 ? "  NEVER SEEN" : "");
-    return count > 0;
-}
-
 static bool report_refusals(enum call call)
 {
     static const uint8_t numbers[CALLS][7] = { /* up to the first 0 */
@@ -288,59 +274,6 @@ static bool report_refusals(enum call call)
     return all;
 }
 
-static uint64_t with_bits(const uint64_t *seen, uint32_t mask, uint32_t wanted)
-{
-    uint64_t sum = 0;
-
-    for (uint32_t byte = 0; byte <= UINT8_MAX; byte++)
-        if ((byte & mask) == wanted)
-            sum += seen[byte];
-    return sum;
-}
-
-/* Names of the bytes from 0 on, or of bits from the lowest on; NULL for one that is not looked at. */
-static bool report_each(const char *const *names, size_t count, const uint64_t *seen)
-{
-    bool all = true;
-
-    for (size_t i = 0; i < count; i++)
-        if (names[i])
-            all &= report_seen(names[i], seen[i]);
-    return all;
-}
-
-static bool report_bits(const char *const *names, size_t count, const uint64_t *seen)
-{
-    bool all = true;
-
-    for (size_t i = 0; i < count; i++)
-        if (names[i])
-            all &= report_seen(names[i], with_bits(seen, 1u << i, 1u << i));
-    return all;
-}
-
-static bool report_answers(void)
-{
-    static const char *const modes[] = {NULL, "mode POS", "mode PRE", "mode VYL", "mode ZAV"};
-    static const char *const codes[] = {"code none", "code Stop", "code Warning", "code 40 and warning", "code Clear"};
-    static const char *const marks[] = {"MAN", "curve", "cyclic prompt", NULL, NULL, "ZS20"};
-    static const char *const causes[] = {"NZ1", "NZ2", "NZ3", "NZ4", "NZ5"};
-    static const char *const lowest[] = {NULL, "NZ1 lowest", "NZ2 lowest", "NZ3 lowest", "NZ4 lowest", "NZ5 lowest"};
-    static const char *const held[] = {"none held", "1 held", "2 held", "3 held", "4 held", "5 held"};
-    const uint32_t prompt = FOLDHARBOR_MARK_ONE_TIME_PROMPT, kind = FOLDHARBOR_MARK_ONE_TIME_KIND;
-    bool all = true;
-
-    all &= report_each(modes, sizeof modes / sizeof modes[0], modes_seen);
-    all &= report_each(codes, sizeof codes / sizeof codes[0], codes_seen);
-    all &= report_bits(marks, sizeof marks / sizeof marks[0], marks_seen);
-    all &= report_seen("one-time prompt kind 0", with_bits(marks_seen, prompt | kind, prompt));
-    all &= report_seen("one-time prompt kind 1", with_bits(marks_seen, prompt | kind, prompt | kind));
-    all &= report_bits(causes, sizeof causes / sizeof causes[0], causes_seen);
-    all &= report_each(lowest, sizeof lowest / sizeof lowest[0], lowest_seen);
-    all &= report_each(held, sizeof held / sizeof held[0], held_seen);
-    return all;
-}
-
 bool report_seen_in_calls(void)
 {
     bool all = true;
@@ -349,6 +282,6 @@ bool report_seen_in_calls(void)
     for (enum call call = OPEN; call < CALLS; call++)
         all &= report_refusals(call);
     printf("accepted ticks:\n");
-    all &= report_answers();
+    all &= report_ticks();
     return all;
 }

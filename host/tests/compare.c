@@ -17,6 +17,7 @@
 #include "foldharbor.h"
 #include "generate.h"
 #include "model.h"
+#include "seen.h"
 
 enum {
     DEFAULT_SEED = 7200,
@@ -39,30 +40,22 @@ static uint64_t seed;
 static uint64_t exercises, calls, ticks_played, different;
 static bool exercise_differs;
 
-/* How often each thing was seen in what was compared. */
 static uint64_t refusals_seen[16]; /* by number; 0 counts what was accepted */
 static uint64_t reader_refusals_seen[UINT8_MAX + 1];
-static uint64_t marks_seen[256]; /* by the whole byte of an answer */
-static uint64_t causes_seen[256];
-static uint64_t lowest_seen[256];
-static uint64_t modes_seen[MODE_ZAV + 1];   /* ticks in the mode that the desk held */
-static uint64_t codes_seen[CODE_CLEAR + 1]; /* ticks under the code in PRE */
 
 /* Goes by the records alone: the desk takes the mode asked for where the train stands. */
 static void tally_records(void)
 {
     uint32_t runs = read_half(exercise + 2);
     const uint8_t *run = exercise + read_half(exercise + 6);
-    uint32_t mode = MODE_POS;
+    uint8_t mode = MODE_POS;
 
     for (; runs > 0; runs--, run += RUN_BYTES) {
         const uint8_t *record = run + RECORD_IN_RUN;
 
         if (read_half(record) == 0)
             mode = record[3];
-        modes_seen[mode] += read_half(run);
-        if (mode == MODE_PRE)
-            codes_seen[record[2]] += read_half(run);
+        tally_ticks(mode, record[2], read_half(run));
     }
 }
 
@@ -71,11 +64,8 @@ static void tally_answers(uint32_t ticks)
     const uint8_t *answer = answers_of_call + SENTINELS;
 
     ticks_played += ticks;
-    for (; ticks > 0; ticks--, answer += FOLDHARBOR_ANSWER_BYTES) {
-        marks_seen[answer[4]]++;
-        causes_seen[answer[5]]++;
-        lowest_seen[answer[6]]++;
-    }
+    for (; ticks > 0; ticks--, answer += FOLDHARBOR_ANSWER_BYTES)
+        tally_answer(answer[4], answer[5], answer[6], answer[7]);
 }
 
 static void tally(uint32_t returned)
@@ -89,30 +79,8 @@ static void tally(uint32_t returned)
     tally_answers(returned);
 }
 
-static uint64_t with_bits(const uint64_t seen[256], uint32_t mask, uint32_t wanted)
-{
-    uint64_t sum = 0;
-
-    for (uint32_t byte = 0; byte < 256; byte++)
-        if ((byte & mask) == wanted)
-            sum += seen[byte];
-    return sum;
-}
-
-static bool report_seen(const char *what, uint64_t count)
-{
-    printf("  %-22s %12" PRIu64 "%s\n", what, count, count == 0 ? "  NEVER SEEN" : "");
-    return count > 0;
-}
-
-static bool report_bit(const char *what, const uint64_t seen[256], uint32_t bit)
-{
-    return report_seen(what, with_bits(seen, bit, bit));
-}
-
 static bool report_all_seen(void)
 {
-    const uint32_t prompt_and_kind = FOLDHARBOR_MARK_ONE_TIME_PROMPT | FOLDHARBOR_MARK_ONE_TIME_KIND;
     bool all = true;
 
     printf("seen in what was compared, calls:\n");
@@ -130,32 +98,7 @@ static bool report_all_seen(void)
     all &= report_seen("refused 10", reader_refusals_seen[10]);
     all &= report_seen("refused 11", reader_refusals_seen[11]);
     printf("ticks:\n");
-    all &= report_seen("mode POS", modes_seen[MODE_POS]);
-    all &= report_seen("mode PRE", modes_seen[MODE_PRE]);
-    all &= report_seen("mode VYL", modes_seen[MODE_VYL]);
-    all &= report_seen("mode ZAV", modes_seen[MODE_ZAV]);
-    all &= report_seen("code none", codes_seen[CODE_NONE]);
-    all &= report_seen("code Stop", codes_seen[CODE_STOP]);
-    all &= report_seen("code Warning", codes_seen[CODE_WARNING]);
-    all &= report_seen("code 40 and warning", codes_seen[CODE_FORTY]);
-    all &= report_seen("code Clear", codes_seen[CODE_CLEAR]);
-    all &= report_bit("MAN", marks_seen, FOLDHARBOR_MARK_MAN);
-    all &= report_bit("curve", marks_seen, FOLDHARBOR_MARK_CURVE);
-    all &= report_bit("cyclic prompt", marks_seen, FOLDHARBOR_MARK_CYCLIC_PROMPT);
-    all &=
-        report_seen("one-time prompt kind 0", with_bits(marks_seen, prompt_and_kind, FOLDHARBOR_MARK_ONE_TIME_PROMPT));
-    all &= report_seen("one-time prompt kind 1", with_bits(marks_seen, prompt_and_kind, prompt_and_kind));
-    all &= report_bit("ZS20", marks_seen, FOLDHARBOR_MARK_ZS20);
-    all &= report_bit("NZ1", causes_seen, FOLDHARBOR_NZ1);
-    all &= report_bit("NZ2", causes_seen, FOLDHARBOR_NZ2);
-    all &= report_bit("NZ3", causes_seen, FOLDHARBOR_NZ3);
-    all &= report_bit("NZ4", causes_seen, FOLDHARBOR_NZ4);
-    all &= report_bit("NZ5", causes_seen, FOLDHARBOR_NZ5);
-    all &= report_seen("NZ1 lowest held", lowest_seen[1]);
-    all &= report_seen("NZ2 lowest held", lowest_seen[2]);
-    all &= report_seen("NZ3 lowest held", lowest_seen[3]);
-    all &= report_seen("NZ4 lowest held", lowest_seen[4]);
-    all &= report_seen("NZ5 lowest held", lowest_seen[5]);
+    all &= report_ticks();
     return all;
 }
 
@@ -215,12 +158,6 @@ static bool rest_untouched(uint32_t returned)
 
     return memcmp(answers_of_call, sentinels, SENTINELS) == 0 &&
            memcmp(answers_of_call + behind, sentinels, ANSWERS_AREA - behind) == 0;
-}
-
-/* Each exercise has dice of its own, so that it can be made again without those before it. */
-static struct dice dice_of_exercise(void)
-{
-    return (struct dice){seed * 0xD1342543DE82EF95u + exercises};
 }
 
 static void hand_exercise_to_call(void)
@@ -449,7 +386,7 @@ static void damage(struct dice *dice, uint32_t cards, uint32_t runs, uint32_t ti
 
 static void compare_generated(void)
 {
-    struct dice dice = dice_of_exercise();
+    struct dice dice = dice_for(seed, exercises);
     bool long_one = dice_once_in(&dice, 50);
     uint32_t cards = 1 + (dice_once_in(&dice, 2) ? dice_roll(&dice, MOST_CARDS) : 0);
     uint32_t runs = 1 + dice_roll(&dice, long_one ? 3000 : 120);
@@ -473,7 +410,7 @@ static void compare_limits(void)
     };
 
     for (size_t i = 0; i < sizeof limits / sizeof limits[0]; i++) {
-        struct dice dice = dice_of_exercise();
+        struct dice dice = dice_for(seed, exercises);
 
         exercise_length = generate_exercise(&dice, limits[i].cards, limits[i].runs, limits[i].ticks, exercise);
         compare_every_way();
@@ -487,7 +424,7 @@ static void compare_empty_runs(void)
 
     for (uint32_t empty = 0; empty < RUNS; empty++) {
         for (uint32_t bad = 0; bad <= RUNS; bad++) {
-            struct dice dice = dice_of_exercise();
+            struct dice dice = dice_for(seed, exercises);
             uint8_t *run = exercise + HEADER_BYTES + CARD_BYTES * CARDS;
 
             exercise_length = generate_exercise(&dice, CARDS, RUNS, TICKS, exercise);
@@ -502,7 +439,7 @@ static void compare_empty_runs(void)
 /* Every cut of a short file, and lengths whose low 16 bits are those of a good file. */
 static void compare_lengths(void)
 {
-    struct dice dice = dice_of_exercise();
+    struct dice dice = dice_for(seed, exercises);
     size_t whole = generate_exercise(&dice, 2, 3, 30, exercise);
 
     for (exercise_length = 0; exercise_length <= whole; exercise_length++)

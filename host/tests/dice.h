@@ -9,6 +9,12 @@ struct dice {
     uint64_t state;
 };
 
+/* Dice of its own for each thing that is made, so that one can be made again without those before it. */
+static inline struct dice dice_for(uint64_t seed, uint64_t number)
+{
+    return (struct dice){seed * 0xD1342543DE82EF95u + number};
+}
+
 /* A number from 0 to sides - 1. */
 static inline uint32_t dice_roll(struct dice *dice, uint32_t sides)
 {

@@ -18,12 +18,6 @@ enum { DEFAULT_SEED = 7200, DEFAULT_COUNT = 6000, MEAN_RUN = 6, MOST_RUN = 700 }
 
 static uint64_t seed, drives;
 
-/* Each drive has dice of its own, so that it can be made again without those before it. */
-static struct dice dice_of_drive(void)
-{
-    return (struct dice){seed * 0xD1342543DE82EF95u + drives};
-}
-
 struct drive {
     struct dice *dice;
     struct driver driver;
@@ -128,7 +122,7 @@ static void disturb(struct drive *drive)
 
 static void compare_drive(void)
 {
-    struct dice dice = dice_of_drive();
+    struct dice dice = dice_for(seed, drives);
     uint32_t ticks = dice_between(&dice, 20, dice_once_in(&dice, 10) ? 2000 : 500);
     struct drive drive = begin_drive(&dice, dice_between(&dice, RECORD_BYTES * ticks / 2, 2 * RECORD_BYTES * ticks));
 
@@ -149,7 +143,7 @@ static void compare_drive(void)
 /* A drive to the end of a long journal, with steps back from there. */
 static void compare_long_drive(size_t length)
 {
-    struct dice dice = dice_of_drive();
+    struct dice dice = dice_for(seed, drives);
     struct drive drive = begin_drive(&dice, length);
     uint32_t capacity = length < FOLDHARBOR_JOURNAL_BYTES ? length / RECORD_BYTES : FOLDHARBOR_MOST_TICKS;
 
