@@ -40,7 +40,7 @@ restart-requires c κs = search needs\
 ' -e 's/^returns c = .*/returns c = rw (← c .before .before .«open» .ensures) (c .restart .ensures)/; s/spec open-requires/& restart-requires/'
 # a tick that leaves the answer of the tick before
 change foldharbor/src/lib.rt 's/{openOutcome,/& backOutcome,/' \
-    -e 's/x ≡ \(tickOutcome desk sample\( (now (journal \.entry))\)\)/x ≡ record { desk = \1 .desk; answer = backOutcome desk 0\2 .answer; refusal = \1 .refusal }/' \
+    -e 's/ \(tickOutcome desk sample\( .*entry))\)\) ⌝/ record { desk = \1 .desk; answer = backOutcome desk 0\2 .answer; refusal = \1 .refusal } ⌝/' \
     -e 's/^    desk\.tick(sample, journal)/let old = desk.step_back(0, journal).answer; let mut out = desk.tick(sample, journal); out.answer = old; out/'
 change foldharbor/proofs/foldharbor_tick/Proof.antt '/^tick-requires :/i\
 step-back-requires : tie.Need-step-back-requires\
