@@ -28,7 +28,7 @@ const NZ5: u8 = 16;
 
 pub const ALL_HELD: u8 = NZ1 + NZ2 + NZ3 + NZ4 + NZ5;
 
-fn held_in(mask: u8) -> Causes
+pub fn held_in(mask: u8) -> Causes
     ensures { λ causes. ⌜ causes ≡ heldIn mask ⌝ }
 {
     Causes {

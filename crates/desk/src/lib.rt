@@ -123,7 +123,7 @@ fn gone_back(desk: Desk, n: u16, after: AfterTick) -> Outcome
 }
 
 // 5, 6: `length` is the journal's.
-fn desk_refusal(desk: Desk, length: usize) -> u8
+pub fn desk_refusal(desk: Desk, length: usize) -> u8
     ensures { λ x. ⌜ x ≡ deskRefusal desk length ⌝ }
 {
     if !desk_in_range(desk) {

@@ -31,6 +31,7 @@ pub struct Sample {
 }
 
 // What a tick goes by, and what the journal keeps of it.
+#[repr(C)]
 pub struct Record {
     // in tenths of km/h
     pub v: u16,

@@ -1,4 +1,4 @@
--- The numbers of refusal, as the paper's table has them and from 15 on the request that brings them; 0 is none.
+-- The numbers of refusal, as the paper's table has them and from 14 on the request that brings them; 0 is none.
 -- When each is given stands with the call that gives it.
 use Prim.Native.Nat.{ℕ}
 use mathlib.Core.Bool.{cond}
@@ -54,6 +54,10 @@ shortBuffer = 12
 abbrev pub noSuchCard : ℕ
 noSuchCard = 13
 
+-- the emergency brake valve is closed
+abbrev pub valveClosed : ℕ
+valveClosed = 14
+
 -- of texts: the chosen table is bad, the message number is not below its count, there is no such language
 abbrev pub badTable : ℕ
 badTable = 15
@@ -63,6 +67,10 @@ noSuchMessage = 16
 
 abbrev pub noSuchLanguage : ℕ
 noSuchLanguage = 17
+
+-- the desk is not the one that the journal rebuilds
+abbrev pub otherDesk : ℕ
+otherDesk = 23
 
 -- of two numbers the first that is not 0; 0 if both are
 unfoldable pub firstRefusal : ℕ → ℕ → ℕ

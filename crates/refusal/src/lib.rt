@@ -1,4 +1,4 @@
-// The numbers of refusal, as the paper's table has them and from 15 on the request that brings them; 0 is none.
+// The numbers of refusal, as the paper's table has them and from 14 on the request that brings them; 0 is none.
 ghost use mathlib.Core.Path.{_≡_};
 ghost use Rattle.refusal.specs.Refusal.{firstRefusal};
 
@@ -28,11 +28,15 @@ pub const SHORT_BUFFER: u8 = 12;
 
 pub const NO_SUCH_CARD: u8 = 13;
 
+pub const VALVE_CLOSED: u8 = 14;
+
 pub const BAD_TABLE: u8 = 15;
 
 pub const NO_SUCH_MESSAGE: u8 = 16;
 
 pub const NO_SUCH_LANGUAGE: u8 = 17;
+
+pub const OTHER_DESK: u8 = 23;
 
 // Of two numbers the first that is not 0; 0 if both are.
 pub fn first_refusal(first: u8, second: u8) -> u8

@@ -1,0 +1,59 @@
+-- What one pass over the records finds, in the structs that the code hands on.
+use Prim.Native.Nat.{ℕ}
+use mathlib.Core.Bool.{Bool, not, _&&_, cond, decide}
+use mathlib.Core.List.{List}
+use lib.Dec.{eqb}
+use Rattle.refusal.specs.Refusal.{badRecord, valveClosed, otherDesk, firstRefusal}
+use Rattle.card.specs.declared.Card.{Card}
+use Rattle.causes.specs.Held.{heldIn}
+use Rattle.causes.specs.Cause.{NZ1, NZ2, NZ3, NZ4, NZ5}
+use Rattle.state.specs.State.{freshState}
+use Rattle.rules.specs.After.{after}
+use Rattle.journal.specs.Journal.{records, allInRange}
+use Rattle.desk.specs.declared.Desk.{Desk}
+use Rattle.same.proofs.Desks.{sameDesk?}
+use Rattle.why.specs.declared.Starts.{Starts}
+use Rattle.why.specs.declared.Told.{Told}
+use Rattle.why.specs.Why.{began}
+
+abbrev pub noStarts : Starts
+noStarts = record { nz1 = 0; nz2 = 0; nz3 = 0; nz4 = 0; nz5 = 0 }
+
+abbrev pub startAt : ℕ → Bool → Bool → ℕ → ℕ
+startAt tick was is start = cond (is && not was) tick start
+
+unfoldable pub startsAt : ℕ → ℕ → ℕ → Starts → Starts
+startsAt tick before after starts =
+    record {
+      nz1 = startAt tick (heldIn before .nz1) (heldIn after .nz1) (starts .nz1);
+      nz2 = startAt tick (heldIn before .nz2) (heldIn after .nz2) (starts .nz2);
+      nz3 = startAt tick (heldIn before .nz3) (heldIn after .nz3) (starts .nz3);
+      nz4 = startAt tick (heldIn before .nz4) (heldIn after .nz4) (starts .nz4);
+      nz5 = startAt tick (heldIn before .nz5) (heldIn after .nz5) (starts .nz5);
+    }
+
+-- a record out of range
+abbrev pub notTold : Told
+notTold = record { refusal = badRecord; state = freshState; starts = noStarts }
+
+module _ (card : Card) (journal : List ℕ) where
+  unfoldable pub startsAfter : ℕ → Starts
+  startsAfter n =
+      record {
+        nz1 = began card (records journal) NZ1 n;
+        nz2 = began card (records journal) NZ2 n;
+        nz3 = began card (records journal) NZ3 n;
+        nz4 = began card (records journal) NZ4 n;
+        nz5 = began card (records journal) NZ5 n;
+      }
+
+  unfoldable pub retold : ℕ → Told
+  retold n =
+      cond (allInRange journal n) (record { refusal = 0; state = after card (records journal) n .state; starts = startsAfter n }) notTold
+
+-- 9, 23, 14
+unfoldable pub retoldRefusal : Desk → Told → ℕ
+retoldRefusal desk told =
+    firstRefusal (told .refusal)
+    (cond (not (decide (sameDesk? desk (record { card = desk .card; n = desk .n; state = told .state })))) otherDesk
+    (cond (eqb (desk .state .causes) 0) valveClosed 0))
