@@ -110,6 +110,7 @@ compile compare compare.c seen.c generate.c model.c
 compile drives drives.c both.c seen.c cases.c some.c fields.c generate.c model.c
 compile pieces pieces.c some.c fields.c generate.c model.c
 compile texts texts.c
+compile told told.c model.c
 compile long long.c model.c
 compile bench bench.c fields.c generate.c model.c
 check "cc live" sh host/build.sh $made/live host/live.c
@@ -121,6 +122,7 @@ check "the exercise calls against the model" sh host/run.sh $made/compare
 check "the calls on a desk against the model" sh host/run.sh $made/drives
 check "cards and answers among bytes against the model" sh host/run.sh $made/pieces
 check "the text call against the model" sh host/run.sh $made/texts
+check "what explain tells, against the model" bash tests/told.sh
 check "a turn of the benchmark" sh host/run.sh $made/bench 1
 check "long drives by the model" sh host/run.sh $made/long $made
 for length in 57599 57600 57608; do

@@ -18,35 +18,50 @@ gives() {
 program() { sh host/run.sh "target/bin/$1" "${@:2}"; }
 full() { "$@" >/dev/full; }
 
-# ---- show.sh: where the exercise comes from, and the status
+# ---- show.sh, as it is and with --why: where the exercise comes from, and the status
 paper=$(cat crates/show/stdout)
 refused=$(cat tests/exercises/02.txt)
-usage="usage: bash show.sh [FILE], where FILE is an exercise, or - for standard input"
-run bash show.sh
-gives "show.sh" 0 "$paper" ""
-run bash show.sh - <crates/show/stdin
-gives "show.sh -" 0 "$paper" ""
-run bash show.sh <(cat crates/show/stdin)
-gives "show.sh <(..)" 0 "$paper" ""
-run bash show.sh tests/exercises/02.ex
-gives "show.sh on a bad file" 1 "$refused" ""
-run bash show.sh <(cat tests/exercises/02.ex)
-gives "show.sh on a bad pipe" 1 "$refused" ""
-for name in "two words" -dash "--" 'a$b`c' "*"; do
-    cp crates/show/stdin "$room/$name"
-    run env -C "$room" bash "$here/show.sh" "$name"
-    gives "show.sh on a file named $name" 0 "$paper" ""
-done
-run bash show.sh "$room"
-gives "show.sh on a directory" 2 "" "show.sh: $room is a directory: name a file in it"
-run bash show.sh "$room/none"
-gives "show.sh on no file" 2 "" "show.sh: no such file: $room/none ($usage)"
-run bash show.sh a b
-gives "show.sh on two files" 2 "" "show.sh: $usage"
-run bash show.sh - <"$room"
-gives "show.sh - on a directory" 2 "" "show: standard input: Is a directory"
-run full bash show.sh
-[ "$status" = 2 ] && grep -q "No space left on device" "$room/err" || miss "show.sh: does not tell that its output can't be written"
+# README.md has what --why prints of the paper's exercise
+why=$(awk -v RS= '/^    card 1\n    tick/' README.md | sed 's/^    //')
+why_refused=$(for language in slovak english; do sed -n "$((22 + ${refused#refused } + 1))s/^/  /p" texts/$language.txt; done)
+usage="usage: bash show.sh [--why] [FILE], where FILE is an exercise, or - for standard input"
+# show_edges PAPER REFUSED PROGRAM WORDS..: show.sh with these words, what it prints of the paper's exercise and of a bad one, and what it runs
+show_edges() {
+    local paper=$1 refused=$2 program=$3 name
+    shift 3
+    run bash show.sh "$@"
+    gives "show.sh $*" 0 "$paper" ""
+    run bash show.sh "$@" - <crates/show/stdin
+    gives "show.sh $* -" 0 "$paper" ""
+    run bash show.sh "$@" <(cat crates/show/stdin)
+    gives "show.sh $* <(..)" 0 "$paper" ""
+    run bash show.sh "$@" tests/exercises/02.ex
+    gives "show.sh $* on a bad file" 1 "$refused" ""
+    run bash show.sh "$@" <(cat tests/exercises/02.ex)
+    gives "show.sh $* on a bad pipe" 1 "$refused" ""
+    for name in "two words" -dash "--" 'a$b`c' "*"; do
+        cp crates/show/stdin "$room/$name"
+        run env -C "$room" bash "$here/show.sh" "$@" "$name"
+        gives "show.sh $* on a file named $name" 0 "$paper" ""
+    done
+    run bash show.sh "$@" "$room"
+    gives "show.sh $* on a directory" 2 "" "show.sh: $room is a directory: name a file in it"
+    run bash show.sh "$@" "$room/none"
+    gives "show.sh $* on no file" 2 "" "show.sh: no such file: $room/none ($usage)"
+    run bash show.sh "$@" a b
+    gives "show.sh $* on two files" 2 "" "show.sh: $usage"
+    run bash show.sh "$@" - <"$room"
+    gives "show.sh $* - on a directory" 2 "" "$program: standard input: Is a directory"
+    run full bash show.sh "$@"
+    [ "$status" = 2 ] && grep -q "No space left on device" "$room/err" || miss "show.sh $*: does not tell that its output can't be written"
+}
+show_edges "$paper" "$refused" show
+show_edges "$why" "$refused"$'\n'"$why_refused" explain --why
+cp crates/show/stdin "$room/--why"
+run env -C "$room" bash "$here/show.sh" --why --why
+gives "show.sh --why on a file of that name" 0 "$why" ""
+run bash show.sh crates/show/stdin --why
+gives "show.sh with --why last" 2 "" "show.sh: $usage"
 
 # ---- programs: an input that fails, an output that fails, words
 for name in show drive; do
@@ -64,6 +79,22 @@ for words in "" "1 0"; do
     run full program messages crates/messages/data/first.table crates/messages/data/second.table $words
     gives "messages $words" 0 "" "messages: standard output: No space left on device"
 done
+tables=(target/texts/slovak.table target/texts/english.table)
+run program explain "${tables[@]}" <"$room"
+gives "explain on a directory" 0 "" "explain: standard input: Is a directory"
+run full program explain "${tables[@]}" <crates/show/stdin
+gives "explain" 0 "" "explain: standard output: No space left on device"
+for words in "" a "a b c"; do
+    # shellcheck disable=SC2086
+    run program explain $words <crates/show/stdin
+    gives "explain $words" 0 "" "usage: explain FIRST SECOND <EXERCISE"
+done
+run program explain "$room/none" "${tables[1]}" <crates/show/stdin
+gives "explain on no first table" 0 "" "explain: $room/none: No such file or directory"
+run program explain "${tables[0]}" "$room" <crates/show/stdin
+gives "explain on no second table" 0 "" "explain: $room: Is a directory"
+run program explain /dev/null "${tables[1]}" <crates/show/stdin
+gives "explain on a bad table" 0 "${why/$(sed -n 3p <<<"$why")/  refused 15 (refused 15, refused 15)}" ""
 for words in x Journal journals "journal journal" "journal x"; do
     # shellcheck disable=SC2086
     run program drive $words <crates/drive/stdin
@@ -93,7 +124,7 @@ exec 3>&-
 wait
 
 # ---- program.sh and run.sh
-programs="drive messages readings show table"
+programs="drive explain messages readings show table"
 for words in "" none numbers; do
     # shellcheck disable=SC2086
     run bash program.sh $words
@@ -103,7 +134,6 @@ run sh host/run.sh "$room/none"
 [ "$status" = 2 ] && grep -q "there is no $room/none: " "$room/err" || miss "run.sh does not tell that a program is missing"
 
 # ---- the example host
-tables=(target/texts/slovak.table target/texts/english.table)
 example=target/host/example
 run bash host/example.sh a b
 gives "example.sh on two words" 2 "" "usage: bash host/example.sh [EXERCISE [FIRST SECOND]], where FIRST and SECOND are tables of texts"
@@ -158,11 +188,12 @@ run bash host/install.sh "$room/usr"
 
 # ---- while something is proved: a tree with a space in its name, whose `rt` writes down its words and makes what it is asked for
 tree="$room/a tree"
-mkdir -p "$tree/crates/show/src" "$tree/bin" "$tree/host"
+mkdir -p "$tree/crates/show/src" "$tree/crates/explain/src" "$tree/bin" "$tree/host"
 cp prove.sh program.sh show.sh "$tree"
 cp host/*.sh "$tree/host"
+cp -r texts "$tree"
 cp crates/show/stdin "$tree/crates/show"
-touch "$tree/crates.txt" "$tree/crates/show/src/main.rt"
+touch "$tree/crates.txt" "$tree/crates/show/src/main.rt" "$tree/crates/explain/src/main.rt"
 cat >"$tree/bin/rt" <<'RT'
 #!/bin/sh
 [ "$1" != doc ] || exec "$REAL_RT" doc
@@ -172,7 +203,7 @@ echo "rt: numbers proved (unchanged since it was last proved)"
 echo "rt: file proved (3 s)"
 [ -z "${FAIL-}" ] || { echo "crates/show/src/main.rt:1:1: error: made up"; exit 1; }
 mkdir -p target/bin target/staticlib target/stamp
-cp "$HERE/target/bin/show" target/bin/show
+[ "$1" != check ] || cp "$HERE/target/bin/$2" target/bin
 touch "target/stamp/$2"
 [ "$1" != staticlib ] || echo "!<arch>" >"target/staticlib/lib$2.a" # an archive of nothing
 RT
@@ -182,12 +213,20 @@ echo "$*" >compiled
 CC
 chmod +x "$tree"/bin/*
 made_up() { env -C "$tree" PATH="$tree/bin:$PATH" HERE="$here" REAL_RT="$(command -v rt)" "$@"; }
-first="show is proved and built first, which takes up to some minutes"
-FAIL=1 run made_up bash show.sh
-[ "$status" = 2 ] && [ ! -s "$room/out" ] && grep -q "error: made up" "$room/err" && grep -q "^.rt check show. failed: " "$room/err" ||
-    miss "show.sh where the proof fails: $status, $(cat "$room/out" "$room/err")"
+first="is proved and built first, which takes up to some minutes"
+# fails PROGRAM WORDS..: whether show.sh with these words ends where the program can't be proved
+fails() {
+    FAIL=1 run made_up bash show.sh "${@:2}"
+    [ "$status" = 2 ] && [ ! -s "$room/out" ] && grep -q "error: made up" "$room/err" && grep -q "^.rt check $1. failed: " "$room/err" ||
+        miss "show.sh ${*:2} where the proof fails: $status, $(cat "$room/out" "$room/err")"
+}
+fails show
+fails table --why
 run made_up bash show.sh - <crates/show/stdin
-gives "show.sh, first run" 0 "$paper" "$(printf '%s\nfile proved (3 s)' "$first")"
+gives "show.sh, first run" 0 "$paper" "$(printf '%s\n' "show $first" "file proved (3 s)")"
+run made_up bash show.sh --why - <crates/show/stdin
+gives "show.sh --why, first run" 0 "$why" \
+    "$(printf '%s\n' "table $first" "file proved (3 s)" "file proved (3 s)" "explain $first" "file proved (3 s)")"
 run made_up bash show.sh - <crates/show/stdin
 gives "show.sh, a source changed" 0 "$paper" "file proved (3 s)"
 rm "$tree/called"

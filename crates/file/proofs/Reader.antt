@@ -8,7 +8,7 @@ use mathlib.Core.List.{List}
 use lib.Dec.{eqb}
 use borrow.Author.Tests.{eqb-true, eq-eqb, ne-eqb}
 use Rattle.refusal.specs.Refusal.{badCard, badFile}
-use Rattle.refusal.proofs.First.{first-zero, first-some}
+use Rattle.refusal.proofs.First.{both-zero, first-zero, first-some}
 use Rattle.file.specs.File.{headerGood, cardCount, runCount, cardsInRange}
 use Rattle.file.specs.Runs.{ticksTo, runsRefusal}
 use Rattle.file.specs.declared.Total.{Total}
@@ -72,3 +72,16 @@ module _ (file : List ℕ) where
   head-good h =
       let header = zero-if (headerGood file) badFile _ (omega arith) h in
       (header .0, zero-if (cardsInRange file (cardCount file)) badCard 0 (omega arith) (header .1) .0)
+
+  -- accepted: nothing is refused
+  read-number : readOutcome file .refusal ≡ readRefusal file
+  unfolding readOutcome
+  read-number = go (eqb (readRefusal file) 0) refl
+    where
+      go : (b : Bool) → eqb (readRefusal file) 0 ≡ b → readOutcome file .refusal ≡ readRefusal file
+      go true e = rw e (sym (eqb-true (readRefusal file) 0 e))
+      go false e = rw e
+
+  pub read-good : readOutcome file .refusal ≡ 0 → (headRefusal file ≡ 0) × (runs ≡ 0)
+  unfolding readRefusal
+  read-good h = both-zero _ _ (sym read-number ∙ h)

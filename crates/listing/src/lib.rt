@@ -9,14 +9,14 @@ const SPACES: [u8; MOST_SPACES] = [b' '; MOST_SPACES];
 
 const MOST_ROWS: u32 = MOST_MESSAGES as u32;
 
-fn print_refused(refusal: u8) -> bool {
+fn print_refused(refusal: u8, end: &[u8]) -> bool {
     if !io::write_all(STDOUT_FILENO, b"refused ") {
         return false;
     }
     if !io::print_decimal(STDOUT_FILENO, refusal as u64) {
         return false;
     }
-    io::write_all(STDOUT_FILENO, b"\n")
+    io::write_all(STDOUT_FILENO, end)
 }
 
 fn print_spaces(count: usize) -> bool {
@@ -30,14 +30,19 @@ fn print_spaces(count: usize) -> bool {
     io::write_all(STDOUT_FILENO, &SPACES[..left])
 }
 
-// Prints one message, or its refusal.
-pub fn show_one<'a>(first: &'a [u8], second: &'a [u8], language: u32, number: u32) -> bool {
+// Prints one message, or its refusal, and no line end.
+pub fn print_one<'a>(first: &'a [u8], second: &'a [u8], language: u32, number: u32) -> bool {
     let mut refusal = 0u8;
     let text = texts::text(first, second, language, number, &mut refusal);
     if refusal != 0 {
-        return print_refused(refusal);
+        return print_refused(refusal, b"");
     }
-    if !io::write_all(STDOUT_FILENO, text) {
+    io::write_all(STDOUT_FILENO, text)
+}
+
+// Prints one message, or its refusal, as a line.
+pub fn show_one<'a>(first: &'a [u8], second: &'a [u8], language: u32, number: u32) -> bool {
+    if !print_one(first, second, language, number) {
         return false;
     }
     io::write_all(STDOUT_FILENO, b"\n")
@@ -118,7 +123,7 @@ pub fn show_all<'a>(first: &'a [u8], second: &'a [u8]) -> bool {
         texts::text(first, second, 2, 0, &mut refusal);
     }
     if refusal != 0 {
-        return print_refused(refusal);
+        return print_refused(refusal, b"\n");
     }
     let width = widest(first, second);
     let mut number = 0u32;

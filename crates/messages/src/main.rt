@@ -13,40 +13,6 @@ enum Said {
 
 const MOST_NUMBER: u64 = 4294967295;
 
-// Tells why a file could not be opened or read, or the output not be written.
-fn tell(name: &[u8]) {
-    io::write_all(STDERR_FILENO, b"messages: ");
-    os::fail(name);
-}
-
-// Reads the file that an argument names; answers its length, or -1 where it can't, which is told.
-fn load(argument: usize, table: &mut [u8]) -> isize {
-    let mut name = io::buffer();
-    let n = os::arg(argument, &mut name);
-    if os::errno() != 0 {
-        tell(b"a file's name");
-        return -1;
-    }
-    let file = os::open_read(&name[..n]);
-    if file < 0 {
-        tell(&name[..n]);
-        return -1;
-    }
-    let got = input::fill(file, table);
-    if got < 0 {
-        tell(&name[..n]);
-    }
-    libc::close(file);
-    // the buffer is one byte longer than a table can be
-    if io::count(got, table) == table.len() {
-        io::write_all(STDERR_FILENO, b"messages: ");
-        io::write_all(STDERR_FILENO, &name[..n]);
-        io::write_all(STDERR_FILENO, b": longer than a table can be\n");
-        return -1;
-    }
-    got
-}
-
 // The number that a word says in decimal, where a u32 holds it.
 fn number_of(word: &[u8]) -> Said {
     if word.len() == 0 {
@@ -81,7 +47,7 @@ fn number_at(argument: usize) -> Said {
 // Tells where not all of the output was written.
 fn written(all: bool) {
     if !all {
-        tell(b"standard output");
+        os::fail(b"messages: standard output");
     }
 }
 
@@ -101,11 +67,11 @@ fn main() {
     // one byte longer than a table can be
     let mut first = [0u8; MOST_BYTES + 1];
     let mut second = [0u8; MOST_BYTES + 1];
-    let got = load(1, &mut first);
+    let got = tables::load(b"messages", 1, &mut first);
     if got < 0 {
         return;
     }
-    let other = load(2, &mut second);
+    let other = tables::load(b"messages", 2, &mut second);
     if other < 0 {
         return;
     }

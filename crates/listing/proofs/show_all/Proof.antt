@@ -16,6 +16,9 @@ text-requires c κs = search needs
 text-requires-2 : tie.Need-text-requires-2 Inv-loop μ-loop
 text-requires-2 c κs = search needs
 
+slice-aggregate-print-refused : tie.Need-slice-aggregate-print-refused Inv-loop μ-loop
+slice-aggregate-print-refused c = search needs
+
 print-refused-requires : tie.Need-print-refused-requires Inv-loop μ-loop
 print-refused-requires c κs = search needs
 
@@ -54,6 +57,7 @@ show-all-spec =
     μ-loop
     text-requires
     text-requires-2
+    slice-aggregate-print-refused
     print-refused-requires
     returns
     widest-requires
