@@ -18,7 +18,7 @@ use Rattle.causes.specs.Cause.{Cause, NZ1, NZ2, NZ3, NZ4, NZ5, of}
 use Rattle.journal.specs.Journal.{records, allInRange}
 use Rattle.desk.specs.declared.Desk.{Desk}
 use Rattle.desk.specs.Calls.{deskRefusal}
-use Rattle.desk.proofs.Calls.{DeskTaken, desk-taken}
+use Rattle.desk.proofs.Calls.{DeskTaken, desk-taken, taken-desk}
 use Rattle.same.proofs.Desks.{sameDesk?}
 use Rattle.why.specs.declared.Starts.{Starts}
 use Rattle.why.specs.declared.Reasons.{Reasons}
@@ -47,6 +47,12 @@ module _ (d : Desk) (J : List ℕ) where
         same = decide-iff (sameDesk? d (rebuilt d J)) .0 (not-false _ (other .0));
         held = eqb-false _ _ (closed .0);
       }
+
+  pub taken-why : WhyTaken d J → whyRefusal d J ≡ 0
+  unfolding whyRefusal
+  taken-why t =
+      let same = decide-iff (sameDesk? d (rebuilt d J)) .1 (t .same) in
+      rw (taken-desk d (length J) (t .fit), first-zero, t .good, same, ne-eqb _ _ (t .held))
 
   -- ---- what the pass comes to
   told-by : (good : Bool)
