@@ -10,7 +10,7 @@ use lib.ListN.{length}
 use borrow.Author.Tests.{eq-eqb, ne-eqb, le-ltb, lt-ltb, lt-leb, ltb-false, leb-false, not-false}
 use Rattle.numbers.proofs.Tests.{and-iff, leb-iff}
 use Rattle.refusal.specs.Refusal.{badDesk, shortJournal, fullJournal, backTooFar, badRecord}
-use Rattle.refusal.proofs.First.{both-zero, first-zero}
+use Rattle.refusal.proofs.First.{both-zero, first-zero, passed}
 use Rattle.card.proofs.Ranges.{card-ranges, ranges-card}
 use Rattle.record.specs.declared.Sample.{Sample}
 use Rattle.record.specs.Record.{recordWidth, putRecord}
@@ -37,10 +37,6 @@ unfolding deskInRange
 ranges-desk d h = simp (and-iff, leb-iff) ((ranges-card _ (h .card), h .n-most), ranges-state _ (h .state))
 
 -- ---- refusals
-passed : (b : Bool) (k x : ℕ) → 0 < k → cond b k x ≡ 0 → (b ≡ false) × (x ≡ 0)
-passed true k x h e = absurd (omega arith)
-passed false k x h e = (refl, e)
-
 pub record DeskTaken (d : Desk) (bytes : ℕ) : Type 0 where
   pub desk-good : deskInRange d ≡ true
   pub long : recordWidth * d .n ≤ bytes

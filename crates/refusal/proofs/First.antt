@@ -1,6 +1,7 @@
 -- The first of two numbers of refusal: 0 where both are, else the one that is not.
 -- By the test of the first number. Assumes nothing.
-use Prim.Native.Nat.{ℕ}
+use Prim.Native.Nat.{ℕ, _<_}
+use native.Mathlib.Omega.{arith}
 use mathlib.Core.Path.{_≡_, refl}
 use mathlib.Core.Bool.{Bool, true, false, cond}
 use borrow.Author.Tests.{eqb-true, eqb-false, ne-eqb}
@@ -30,3 +31,8 @@ first-of-three a b c = go (eqb a 0) refl
     go : (t : Bool) → eqb a 0 ≡ t → cond (eqb a 0) (firstRefusal b c) a ≡ firstRefusal (cond (eqb a 0) b a) c
     go true e = rw e
     go false e = rw (e, e)
+
+-- a test that gives no refusal said no
+pub passed : (test : Bool) (number next : ℕ) → 0 < number → cond test number next ≡ 0 → (test ≡ false) × (next ≡ 0)
+passed true number next h e = absurd (omega arith)
+passed false number next h e = (refl, e)

@@ -102,9 +102,11 @@ module _ (card : Card) (H : ℕ → Record) (cause : Cause) where
   unfolding after heldNext step1Mode
   fired n now before =
       let s = step1Mode (after card H n .state) (H n) in
+      let triggers = triggersIn card s (H n) in
+      let releases = releasesIn card s (H n) in
+      let step = ap (of cause) (advance-held card (after card H n .state) (H n)) ∙ of-held cause (heldIn (s .causes)) triggers releases in
       let z : suc n - 1 ≡ n = omega arith in
-      let step = ap (of cause) (advance-held card (after card H n .state) (H n)) ∙ of-held cause (heldIn (s .causes)) (triggersIn card s (H n)) (releasesIn card s (H n)) in
-      rw z (made-held _ _ _ (sym step ∙ now) before)
+      rw z (made-held (held n) (of cause triggers) (of cause releases) (sym step ∙ now) before)
 
   fired-at : (s : ℕ) → 1 ≤ s → held s ≡ true → held (s - 1) ≡ false → triggeredAt card H cause s ≡ true
   fired-at zero h now before = absurd (omega arith)

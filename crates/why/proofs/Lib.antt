@@ -1,2 +1,4 @@
 pub mod Next
 pub mod Began
+pub mod Calls
+pub mod Determined

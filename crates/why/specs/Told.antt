@@ -1,12 +1,15 @@
 -- What one pass over the records finds, in the structs that the code hands on.
-use Prim.Native.Nat.{ℕ}
+use Prim.Native.Nat.{ℕ, _*_, _≤_}
 use mathlib.Core.Bool.{Bool, not, _&&_, cond, decide}
 use mathlib.Core.List.{List}
 use lib.Dec.{eqb}
 use Rattle.refusal.specs.Refusal.{badRecord, valveClosed, otherDesk, firstRefusal}
 use Rattle.card.specs.declared.Card.{Card}
+use Rattle.record.specs.declared.Record.{Record}
+use Rattle.record.specs.Record.{recordWidth}
+use Rattle.causes.specs.declared.Causes.{Causes}
 use Rattle.causes.specs.Held.{heldIn}
-use Rattle.causes.specs.Cause.{NZ1, NZ2, NZ3, NZ4, NZ5}
+use Rattle.causes.specs.Cause.{Cause, NZ1, NZ2, NZ3, NZ4, NZ5}
 use Rattle.state.specs.State.{freshState}
 use Rattle.rules.specs.After.{after}
 use Rattle.journal.specs.Journal.{records, allInRange}
@@ -14,7 +17,8 @@ use Rattle.desk.specs.declared.Desk.{Desk}
 use Rattle.same.proofs.Desks.{sameDesk?}
 use Rattle.why.specs.declared.Starts.{Starts}
 use Rattle.why.specs.declared.Told.{Told}
-use Rattle.why.specs.Why.{began}
+use Rattle.why.specs.declared.Reasons.{Reasons}
+use Rattle.why.specs.Why.{began, reasonOf}
 
 abbrev pub noStarts : Starts
 noStarts = record { nz1 = 0; nz2 = 0; nz3 = 0; nz4 = 0; nz5 = 0 }
@@ -57,3 +61,26 @@ retoldRefusal desk told =
     firstRefusal (told .refusal)
     (cond (not (decide (sameDesk? desk (record { card = desk .card; n = desk .n; state = told .state })))) otherDesk
     (cond (eqb (desk .state .causes) 0) valveClosed 0))
+
+unfoldable pub startOf : Cause → Starts → ℕ
+startOf NZ1 starts = starts .nz1
+startOf NZ2 starts = starts .nz2
+startOf NZ3 starts = starts .nz3
+startOf NZ4 starts = starts .nz4
+startOf NZ5 starts = starts .nz5
+
+-- the tick has a record in a journal of so many bytes
+pub record StartFits (tick bytes : ℕ) : Type 0 where
+  pub first : 1 ≤ tick
+  pub last : recordWidth * tick ≤ bytes
+
+unfoldable pub reasonsOf : (ℕ → Record) → Causes → Starts → Reasons
+reasonsOf records held starts =
+    record {
+      refusal = 0;
+      nz1 = reasonOf records (held .nz1) (starts .nz1);
+      nz2 = reasonOf records (held .nz2) (starts .nz2);
+      nz3 = reasonOf records (held .nz3) (starts .nz3);
+      nz4 = reasonOf records (held .nz4) (starts .nz4);
+      nz5 = reasonOf records (held .nz5) (starts .nz5);
+    }

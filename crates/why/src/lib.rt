@@ -5,10 +5,12 @@ ghost use Prim.Native.Nat.{_*_, _≤_};
 ghost use lib.ListN.{length};
 ghost use Rattle.card.specs.Card.{CardRanges};
 ghost use Rattle.record.specs.Record.{recordWidth};
+ghost use Rattle.causes.specs.Cause.{Cause, of};
 ghost use Rattle.journal.specs.Journal.{records};
 ghost use Rattle.why.specs.Why.{noReason, refused, reasonOf, whyReasons};
-ghost use Rattle.why.specs.Told.{noStarts, startAt, startsAt, notTold, retold, retoldRefusal};
+ghost use Rattle.why.specs.Told.{noStarts, startAt, startsAt, notTold, retold, retoldRefusal, startOf, StartFits, reasonsOf};
 use card::Card;
+use causes::Causes;
 use desk::Desk;
 use record::RECORD_WIDTH;
 use record::Record;
@@ -180,7 +182,7 @@ fn retold_refusal(desk: Desk, told: Told) -> u8
 
 // Why a cause is held, by its start.
 fn reason_of(journal: &[u8], held: bool, start: u16) -> Reason
-    requires { ⌜ (held ≡ true → (1 ≤ start) × (recordWidth * start ≤ length (now journal))) ⌝ }
+    requires { ⌜ (held ≡ true → StartFits start (length (now journal))) ⌝ }
     ensures { λ x. ⌜ x ≡ reasonOf (records (now (journal .entry))) held start ⌝ }
 {
     if !held {
@@ -189,6 +191,21 @@ fn reason_of(journal: &[u8], held: bool, start: u16) -> Reason
     Reason {
         tick: start,
         reading: record::record_at(journal, RECORD_WIDTH * (start as usize - 1)),
+    }
+}
+
+// Why each cause is held, by the starts.
+fn reasons_of(journal: &[u8], held: Causes, starts: Starts) -> Reasons
+    requires { ⌜ ((cause : Cause) → of cause held ≡ true → StartFits (startOf cause starts) (length (now journal))) ⌝ }
+    ensures { λ x. ⌜ x ≡ reasonsOf (records (now (journal .entry))) held starts ⌝ }
+{
+    Reasons {
+        refusal: 0,
+        nz1: reason_of(journal, held.nz1, starts.nz1),
+        nz2: reason_of(journal, held.nz2, starts.nz2),
+        nz3: reason_of(journal, held.nz3, starts.nz3),
+        nz4: reason_of(journal, held.nz4, starts.nz4),
+        nz5: reason_of(journal, held.nz5, starts.nz5),
     }
 }
 
@@ -205,13 +222,6 @@ pub fn why(desk: Desk, journal: &[u8]) -> Reasons
     if refusal != 0 {
         return refused(refusal);
     }
-    let held = causes::held_in(desk.state.causes);
-    Reasons {
-        refusal: 0,
-        nz1: reason_of(journal, held.nz1, told.starts.nz1),
-        nz2: reason_of(journal, held.nz2, told.starts.nz2),
-        nz3: reason_of(journal, held.nz3, told.starts.nz3),
-        nz4: reason_of(journal, held.nz4, told.starts.nz4),
-        nz5: reason_of(journal, held.nz5, told.starts.nz5),
-    }
+    let starts = told.starts;
+    reasons_of(journal, causes::held_in(desk.state.causes), starts)
 }
