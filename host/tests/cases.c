@@ -307,6 +307,38 @@ static void compare_faults(struct dice *dice)
     }
 }
 
+/* All causes at once, which drives hardly come to. */
+
+/* A drive in VYL without a press: a stand for the card's wait, then too fast without a direction for a whole cycle. */
+static void compare_five_causes(struct dice *dice)
+{
+    foldharbor_desk desk = both_open(some_card(dice)).desk;
+    const uint32_t stand = desk.card.wait, ticks = stand + 1 + desk.card.cycle;
+
+    lay_journal(RECORD_BYTES * ticks, 0);
+    for (uint32_t place = 0; place < ticks; place++) {
+        struct record record = some_record(dice);
+        uint8_t bytes[RECORD_BYTES];
+
+        record.speed = place < stand ? 0 : dice_between(dice, VYL_CEILING + 101, MOST_SPEED);
+        record.mode = MODE_VYL;
+        record.flags &= ~(FLAG_VIGILANCE | FLAG_DIRECT_BRAKE);
+        record.band = BRAKES_RELEASED;
+        record.sense = 0;
+        model_write_record(bytes, &record);
+        lay_record(place, bytes);
+    }
+    desk.n = ticks;
+    desk = both_step_back(desk, 0, RECORD_BYTES * ticks).desk;
+
+    foldharbor_reasons why = both_why(desk, RECORD_BYTES * ticks);
+
+    expect(why.causes[4].tick == stand, "NZ5 begins elsewhere");
+    expect(why.causes[1].tick == stand + 1, "NZ2 begins elsewhere");
+    expect(why.causes[2].tick == stand + 2 || why.causes[2].tick == stand + 3, "NZ3 begins elsewhere");
+    expect(why.causes[0].tick == ticks, "NZ1 begins elsewhere");
+}
+
 /* One field of a desk that is not the journal's: a number of its state in range is another desk. */
 
 static void compare_other_desk(foldharbor_desk desk, const struct field *field, uint32_t value, size_t length)
@@ -528,6 +560,8 @@ void compare_cases(struct dice *dice)
     compare_ranges(dice);
     compare_faults(dice);
     compare_other_desks(dice);
+    for (uint32_t times = 0; times < 40; times++)
+        compare_five_causes(dice);
     compare_short_journals(dice);
     compare_long_journals(dice);
     compare_bad_records(dice);
