@@ -1,6 +1,7 @@
 -- Laws of the call: what an accepted one says of desk and journal, what its pass over the records comes to, and what is returned then and else.
 -- A chain of refusals that comes to 0 passed every test; then the desk is the one that the records rebuild.
 use Prim.Native.Nat.{ℕ, _+_, _*_, _≤_}
+use native.Mathlib.Decide.{ℕ-discrete}
 use native.Mathlib.Omega.{arith}
 use mathlib.Core.Path.{_≡_, refl, sym, ap, _∙_}
 use mathlib.Core.Bool.{Bool, true, false, not, cond, decide, decide-iff}
@@ -23,7 +24,7 @@ use Rattle.same.proofs.Desks.{sameDesk?}
 use Rattle.why.specs.declared.Starts.{Starts}
 use Rattle.why.specs.declared.Reasons.{Reasons}
 use Rattle.why.specs.declared.Told.{Told}
-use Rattle.why.specs.Why.{refused, heldAfter, began, rebuilt, reasonOf, reasonFor, whyRefusal, whyReasons}
+use Rattle.why.specs.Why.{refused, heldAfter, began, rebuilt, reasonOf, reasonFor, reasons, whyRefusal, whyReasons}
 use Rattle.why.specs.Told.{notTold, startsAfter, retold, retoldRefusal, startOf, StartFits, reasonsOf}
 use Rattle.why.proofs.Began.{began-then}
 
@@ -81,7 +82,7 @@ module _ (d : Desk) (J : List ℕ) where
         go NZ4 = refl
         go NZ5 = refl
 
-    held-is : (cause : Cause) → of cause (heldIn (d .state .causes)) ≡ heldAfter (d .card) (records J) cause (d .n)
+    pub held-is : (cause : Cause) → of cause (heldIn (d .state .causes)) ≡ heldAfter (d .card) (records J) cause (d .n)
     held-is cause = ap (λ (x : Desk). of cause (heldIn (x .state .causes))) (taken .same)
 
     -- what `reasons_of` asks: a held cause has a start, and its record lies in the journal
@@ -109,3 +110,14 @@ module _ (d : Desk) (J : List ℕ) where
   pub why-no : (whyRefusal d J ≡ 0 → ⊥) → whyReasons d J ≡ refused (whyRefusal d J)
   unfolding whyReasons
   why-no h = rw (ne-eqb _ _ h)
+
+  pub why-yes : whyRefusal d J ≡ 0 → whyReasons d J ≡ reasons d J
+  unfolding whyReasons
+  why-yes e = rw (eq-eqb _ _ e)
+
+  pub why-number : whyReasons d J .refusal ≡ whyRefusal d J
+  why-number = go (ℕ-discrete (whyRefusal d J) 0)
+    where
+      go : Dec (whyRefusal d J ≡ 0) → whyReasons d J .refusal ≡ whyRefusal d J
+      go (yes e) = ap (λ (x : Reasons). x .refusal) (why-yes e) ∙ sym e
+      go (no n) = ap (λ (x : Reasons). x .refusal) (why-no n)
