@@ -307,9 +307,10 @@ static void compare_faults(struct dice *dice)
     }
 }
 
-/* All causes at once, which drives hardly come to. */
-
-/* A drive in VYL without a press: a stand for the card's wait, then too fast without a direction for a whole cycle. */
+/*
+ * All causes at once, which drives hardly come to: in VYL, without a press, a stand for the card's wait, and then too
+ * fast by any tolerance and in no direction for a whole cycle. Remote stop is any time.
+ */
 static void compare_five_causes(struct dice *dice)
 {
     foldharbor_desk desk = both_open(some_card(dice)).desk;
@@ -339,8 +340,10 @@ static void compare_five_causes(struct dice *dice)
     expect(why.causes[0].tick == ticks, "NZ1 begins elsewhere");
 }
 
-/* One field of a desk that is not the journal's: a number of its state in range is another desk. */
-
+/*
+ * One field with another number: in the state it makes another desk than the journal's. With another card or n the
+ * journal may rebuild just that desk.
+ */
 static void compare_other_desk(foldharbor_desk desk, const struct field *field, uint32_t value, size_t length)
 {
     const uint32_t own = get_field(&desk, field);
@@ -369,8 +372,8 @@ static void compare_other_desks(struct dice *dice)
 
         for (const struct field *field = desk_fields; field < desk_fields + DESK_FIELDS; field++) {
             const uint32_t own = get_field(&desk, field);
-            const uint32_t values[] = {own - 1,     own,           own + 1,    field->least - 1, field->least,
-                                       field->most, field->most + 1, UINT16_MAX, 0};
+            const uint32_t values[] = {
+                own - 1, own, own + 1, field->least - 1, field->least, field->most, field->most + 1, UINT16_MAX, 0};
 
             for (size_t i = 0; i < sizeof values / sizeof values[0]; i++)
                 compare_other_desk(desk, field, values[i], LENGTH);
@@ -461,12 +464,12 @@ static void compare_bad_records(struct dice *dice)
             lay_bad_record(place, fault);
             for (uint32_t left = 0; left <= TICKS; left++) {
                 foldharbor_outcome outcome = both_step_back(desk, TICKS - left, TICKS * RECORD_BYTES);
-                uint32_t refusal = outcome.desk.state.causes == 0 ? REFUSED_CLOSED : 0;
+                uint32_t refusal = both_why(outcome.desk, TICKS * RECORD_BYTES).refusal;
+                uint32_t wanted = outcome.desk.state.causes == 0 ? REFUSED_CLOSED : 0;
 
                 expect(outcome.refusal == (place < left ? REFUSED_RECORD : 0), "a bad record counts elsewhere");
-                if (place < left) /* and the desk is the one handed in, with all ticks */
-                    refusal = REFUSED_RECORD;
-                expect(both_why(outcome.desk, TICKS * RECORD_BYTES).refusal == refusal, "and so where why is asked");
+                /* a refused step back gives back the desk with all its ticks */
+                expect(refusal == (place < left ? REFUSED_RECORD : wanted), "a bad record counts elsewhere for why");
             }
         }
     }

@@ -1,5 +1,6 @@
 /*
- * Compares the calls on a desk with the model: drives with steps back and restarts, and cases beside them.
+ * Compares the calls on a desk with the model: drives with steps back and restarts, in which why is asked, and cases
+ * beside them.
  *
  *   drives [SEED [COUNT]]
  */
