@@ -15,7 +15,6 @@ use Rattle.record.specs.Record.{recordWidth}
 use Rattle.causes.specs.declared.Causes.{Causes}
 use Rattle.causes.specs.Held.{heldIn}
 use Rattle.causes.specs.Cause.{Cause, NZ1, NZ2, NZ3, NZ4, NZ5, of}
-use Rattle.rules.specs.After.{after}
 use Rattle.journal.specs.Journal.{records, allInRange}
 use Rattle.desk.specs.declared.Desk.{Desk}
 use Rattle.desk.specs.Calls.{deskRefusal}
@@ -25,7 +24,7 @@ use Rattle.why.specs.declared.Starts.{Starts}
 use Rattle.why.specs.declared.Reasons.{Reasons}
 use Rattle.why.specs.declared.Told.{Told}
 use Rattle.why.specs.Why.{refused, heldAfter, began, rebuilt, reasonOf, reasonFor, reasons, whyRefusal, whyReasons}
-use Rattle.why.specs.Told.{notTold, startsAfter, retold, retoldRefusal, startOf, StartFits, reasonsOf}
+use Rattle.why.specs.Told.{notTold, startsAfter, allTold, retold, retoldRefusal, startOf, StartFits, reasonsOf}
 use Rattle.why.proofs.Began.{began-then}
 
 pub record WhyTaken (desk : Desk) (journal : List ℕ) : Type 0 where
@@ -51,7 +50,7 @@ module _ (d : Desk) (J : List ℕ) where
 
   -- ---- what the pass comes to
   told-by : (good : Bool)
-      → retoldRefusal d (cond good (record { refusal = 0; state = after (d .card) (records J) (d .n) .state; starts = startsAfter (d .card) J (d .n) }) notTold)
+      → retoldRefusal d (cond good (allTold (d .card) J (d .n)) notTold)
       ≡ cond (not good) badRecord
       (cond (not (decide (sameDesk? d (rebuilt d J)))) otherDesk
       (cond (eqb (d .state .causes) 0) valveClosed 0))
