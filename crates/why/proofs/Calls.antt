@@ -1,6 +1,7 @@
 -- Laws of the call: what an accepted one says of desk and journal, what its pass over the records comes to, and what is returned then and else.
 -- A chain of refusals that comes to 0 passed every test; then the desk is the one that the records rebuild.
 use Prim.Native.Nat.{ℕ, _+_, _*_, _≤_}
+use native.Mathlib.Decide.{ℕ-discrete}
 use native.Mathlib.Omega.{arith}
 use mathlib.Core.Path.{_≡_, refl, sym, ap, _∙_}
 use mathlib.Core.Bool.{Bool, true, false, not, cond, decide, decide-iff}
@@ -14,17 +15,16 @@ use Rattle.record.specs.Record.{recordWidth}
 use Rattle.causes.specs.declared.Causes.{Causes}
 use Rattle.causes.specs.Held.{heldIn}
 use Rattle.causes.specs.Cause.{Cause, NZ1, NZ2, NZ3, NZ4, NZ5, of}
-use Rattle.rules.specs.After.{after}
 use Rattle.journal.specs.Journal.{records, allInRange}
 use Rattle.desk.specs.declared.Desk.{Desk}
 use Rattle.desk.specs.Calls.{deskRefusal}
-use Rattle.desk.proofs.Calls.{DeskTaken, desk-taken}
+use Rattle.desk.proofs.Calls.{DeskTaken, desk-taken, taken-desk}
 use Rattle.same.proofs.Desks.{sameDesk?}
 use Rattle.why.specs.declared.Starts.{Starts}
 use Rattle.why.specs.declared.Reasons.{Reasons}
 use Rattle.why.specs.declared.Told.{Told}
-use Rattle.why.specs.Why.{refused, heldAfter, began, rebuilt, reasonOf, reasonFor, whyRefusal, whyReasons}
-use Rattle.why.specs.Told.{notTold, startsAfter, retold, retoldRefusal, startOf, StartFits, reasonsOf}
+use Rattle.why.specs.Why.{refused, heldAfter, began, rebuilt, reasonOf, reasonFor, reasons, whyRefusal, whyReasons}
+use Rattle.why.specs.Told.{notTold, startsAfter, allTold, retold, retoldRefusal, startOf, StartFits, reasonsOf}
 use Rattle.why.proofs.Began.{began-then}
 
 pub record WhyTaken (desk : Desk) (journal : List ℕ) : Type 0 where
@@ -48,9 +48,15 @@ module _ (d : Desk) (J : List ℕ) where
         held = eqb-false _ _ (closed .0);
       }
 
+  pub taken-why : WhyTaken d J → whyRefusal d J ≡ 0
+  unfolding whyRefusal
+  taken-why t =
+      let same = decide-iff (sameDesk? d (rebuilt d J)) .1 (t .same) in
+      rw (taken-desk d (length J) (t .fit), first-zero, t .good, same, ne-eqb _ _ (t .held))
+
   -- ---- what the pass comes to
   told-by : (good : Bool)
-      → retoldRefusal d (cond good (record { refusal = 0; state = after (d .card) (records J) (d .n) .state; starts = startsAfter (d .card) J (d .n) }) notTold)
+      → retoldRefusal d (cond good (allTold (d .card) J (d .n)) notTold)
       ≡ cond (not good) badRecord
       (cond (not (decide (sameDesk? d (rebuilt d J)))) otherDesk
       (cond (eqb (d .state .causes) 0) valveClosed 0))
@@ -81,7 +87,7 @@ module _ (d : Desk) (J : List ℕ) where
         go NZ4 = refl
         go NZ5 = refl
 
-    held-is : (cause : Cause) → of cause (heldIn (d .state .causes)) ≡ heldAfter (d .card) (records J) cause (d .n)
+    pub held-is : (cause : Cause) → of cause (heldIn (d .state .causes)) ≡ heldAfter (d .card) (records J) cause (d .n)
     held-is cause = ap (λ (x : Desk). of cause (heldIn (x .state .causes))) (taken .same)
 
     -- what `reasons_of` asks: a held cause has a start, and its record lies in the journal
@@ -109,3 +115,14 @@ module _ (d : Desk) (J : List ℕ) where
   pub why-no : (whyRefusal d J ≡ 0 → ⊥) → whyReasons d J ≡ refused (whyRefusal d J)
   unfolding whyReasons
   why-no h = rw (ne-eqb _ _ h)
+
+  pub why-yes : whyRefusal d J ≡ 0 → whyReasons d J ≡ reasons d J
+  unfolding whyReasons
+  why-yes e = rw (eq-eqb _ _ e)
+
+  pub why-number : whyReasons d J .refusal ≡ whyRefusal d J
+  why-number = go (ℕ-discrete (whyRefusal d J) 0)
+    where
+      go : Dec (whyRefusal d J ≡ 0) → whyReasons d J .refusal ≡ whyRefusal d J
+      go (yes e) = ap (λ (x : Reasons). x .refusal) (why-yes e) ∙ sym e
+      go (no n) = ap (λ (x : Reasons). x .refusal) (why-no n)

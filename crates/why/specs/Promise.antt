@@ -1,5 +1,5 @@
--- What the call promises: where it gives a tick for a cause, that cause was triggered at that tick, was not held just before, and has been held at
--- every tick since; there is no other such tick; and each held cause gets its tick. Of every desk and every journal, whatever it holds.
+-- What the call promises, of every desk and every journal, whatever it holds: where it gives a tick for a cause, the cause was triggered at that tick, was
+-- not held just before, and has been held at every tick since; there is no other such tick; and a held cause always gets its tick.
 use Prim.Native.Nat.{ℕ, _-_, _≤_}
 use mathlib.Core.Path.{_≡_}
 use mathlib.Core.Bool.{Bool, true, false}
@@ -18,7 +18,7 @@ use Rattle.why.specs.declared.Reasons.{Reasons}
 use Rattle.why.specs.Why.{noReason, heldAfter}
 
 module _ (card : Card) (records : ℕ → Record) (cause : Cause) where
-  -- step 9 of a tick triggers the cause, in the state that the ticks before it left
+  -- a tick triggers the cause, in the state that the ticks before it left
   abbrev pub triggeredAt : ℕ → Bool
   triggeredAt tick =
       of cause (triggersIn card (step1Mode (after card records (tick - 1) .state) (records (tick - 1))) (records (tick - 1)))

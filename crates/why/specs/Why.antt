@@ -61,8 +61,8 @@ module _ (desk : Desk) (journal : List ℕ) where
   abbrev pub reasonFor : Cause → Reason
   reasonFor cause = reason (desk .card) (records journal) cause (desk .n)
 
+  abbrev pub reasons : Reasons
+  reasons = record { refusal = 0; nz1 = reasonFor NZ1; nz2 = reasonFor NZ2; nz3 = reasonFor NZ3; nz4 = reasonFor NZ4; nz5 = reasonFor NZ5 }
+
   unfoldable pub whyReasons : Reasons
-  whyReasons =
-      cond (eqb whyRefusal 0)
-      (record { refusal = 0; nz1 = reasonFor NZ1; nz2 = reasonFor NZ2; nz3 = reasonFor NZ3; nz4 = reasonFor NZ4; nz5 = reasonFor NZ5 })
-      (refused whyRefusal)
+  whyReasons = cond (eqb whyRefusal 0) reasons (refused whyRefusal)
