@@ -7,7 +7,7 @@
 set -eu
 
 [ $# != 1 ] || { echo "usage: sh host/build.sh [OUT SOURCES..]" >&2; exit 2; }
-objects="foldharbor foldharbor_back foldharbor_exercise" # of the archive, and the crates that they are made of
+objects="foldharbor foldharbor_back foldharbor_exercise foldharbor_why" # of the archive, and the crates that they are made of
 here=$(CDPATH='' cd -- "$(dirname -- "$0")" && pwd)
 root=$(dirname -- "$here")
 machine=$(uname -m)

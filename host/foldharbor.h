@@ -7,6 +7,7 @@
  *   foldharbor_tick            the cab's readings in, the answer out
  *   foldharbor_step_back       strikes the last so many ticks
  *   foldharbor_restart         strikes all of them
+ *   foldharbor_why             tells which ticks opened the valve
  *
  * A whole exercise, a file of cards and runs:
  *
@@ -63,15 +64,15 @@ extern "C" {
 #endif
 
 /*
- * The version of this header, 1.0.0: 10,000 times the first number, 100 times the second, and the third. The call
+ * The version of this header, 1.1.0: 10,000 times the first number, 100 times the second, and the third. The call
  * returns the archive's. The first numbers of the two have to be the same: otherwise the structs may differ.
  */
-#define FOLDHARBOR_VERSION 10000
+#define FOLDHARBOR_VERSION 10100
 uint32_t foldharbor_version(void);
 
 /*
- * Refusals; 0 is none, 14 is not used yet. Each call lists those that it gives in the order in which they are looked
- * for, and gives the first that applies.
+ * Refusals; 0 is none, 18 to 22 are not used yet. Each call lists those that it gives in the order in which they are
+ * looked for, and gives the first that applies.
  */
 enum {
     FOLDHARBOR_BAD_SPEED = 1,     /* of a sample: not a number, infinite, below 0, or above 250.0 km/h when rounded */
@@ -82,15 +83,18 @@ enum {
     FOLDHARBOR_SHORT_JOURNAL = 6, /* the journal has fewer than 8n bytes, for the desk's n ticks */
     FOLDHARBOR_FULL_JOURNAL = 7,  /* it has fewer than 8n + 8, or n is 7,200 */
     FOLDHARBOR_BACK_TOO_FAR = 8,  /* more ticks to strike than the desk has */
-    FOLDHARBOR_BAD_RECORD = 9,    /* a record is out of range: one that a step back leaves, or a run's in a file */
+    FOLDHARBOR_BAD_RECORD = 9,    /* a record is out of range: one that a step back leaves, one of the desk's n where it
+                                     is asked why, or a run's in a file */
     FOLDHARBOR_BAD_FILE = 10,     /* shorter than a header, a count out of range, or an offset, the total or the real
                                      length is not what the counts give */
     FOLDHARBOR_BAD_TICKS = 11,    /* a run of 0 ticks, or one that takes the sum of ticks over 7,200 */
     FOLDHARBOR_SHORT_BUFFER = 12, /* the answer buffer has fewer than 8 bytes for each tick */
     FOLDHARBOR_NO_SUCH_CARD = 13, /* the file has no card of the asked number: 0, or above its count */
+    FOLDHARBOR_VALVE_CLOSED = 14, /* no cause is held: there is nothing to tell */
     FOLDHARBOR_BAD_TABLE = 15,    /* anything in the chosen table of texts is not as said below, in whatever message */
     FOLDHARBOR_NO_SUCH_MESSAGE = 16,  /* the message's number is not below the chosen table's count */
     FOLDHARBOR_NO_SUCH_LANGUAGE = 17, /* the language is neither 1 nor 2 */
+    FOLDHARBOR_OTHER_DESK = 23,       /* the desk is not the one that the journal rebuilds, in whatever field */
     FOLDHARBOR_REFUSED = 10000        /* foldharbor_run_exercise returns this plus the number */
 };
 
@@ -102,6 +106,7 @@ enum { /* sizes in bytes, and limits */
     FOLDHARBOR_RECORD_BYTES = 8,
     FOLDHARBOR_JOURNAL_BYTES = FOLDHARBOR_RECORD_BYTES * FOLDHARBOR_MOST_TICKS, /* enough for any drive */
     FOLDHARBOR_ANSWER_BYTES = 8,
+    FOLDHARBOR_CAUSES = 5, /* how many there are */
     FOLDHARBOR_CARD_BYTES = 20,
     FOLDHARBOR_MOST_SPEED = 2500, /* of a card and of a record */
     FOLDHARBOR_MOST_TOLERANCE = 100,
@@ -304,8 +309,8 @@ foldharbor_outcome foldharbor_open(foldharbor_card card);
  * journal changes.
  *
  * The journal is a buffer of the host's with the records of all ticks. Hand the same buffer to every call on a desk,
- * and leave its bytes alone: a step back rebuilds the desk from them. What it holds before the first tick does not
- * matter. FOLDHARBOR_JOURNAL_BYTES are enough for any drive; a shorter one is full earlier.
+ * and leave its bytes alone: a step back rebuilds the desk from them, and why is told from them. What it holds before
+ * the first tick does not matter. FOLDHARBOR_JOURNAL_BYTES are enough for any drive; a shorter one is full earlier.
  */
 foldharbor_outcome foldharbor_tick(foldharbor_desk desk, foldharbor_sample sample, uint8_t *journal,
                                    size_t journal_length);
@@ -331,6 +336,52 @@ foldharbor_outcome foldharbor_step_back(foldharbor_desk desk, uint32_t k, const 
  * Refusal: FOLDHARBOR_BAD_DESK.
  */
 foldharbor_outcome foldharbor_restart(foldharbor_desk desk);
+
+/* A record: what a tick goes by, and what the journal keeps of it. Ranges are as in a sample. */
+typedef struct foldharbor_record {
+    uint16_t v;   /* the train's speed (0 to 2500) */
+    uint8_t code; /* signal code */
+    uint8_t mode; /* asked for */
+    uint8_t lever;
+    uint8_t flags;
+    uint8_t band;  /* of the pressure (0 to 2) */
+    uint8_t sense; /* of motion */
+} foldharbor_record;
+
+/* Why a cause is held; zeros where it is not. */
+typedef struct foldharbor_reason {
+    uint16_t tick; /* at which its present holding began: the drive's first is 1 (1 to 7200) */
+    foldharbor_record reading;
+} foldharbor_reason;
+
+/* Of each cause why it is held. */
+typedef struct foldharbor_reasons {
+    uint8_t refusal;                             /* 0 if accepted */
+    foldharbor_reason causes[FOLDHARBOR_CAUSES]; /* by their bits: NZ1 is the first */
+} foldharbor_reasons;
+
+/*
+ * Tells why the valve is open: of each held cause the tick at which its present holding began, and that tick's record.
+ * At that tick the cause was triggered; it was not held just before, and has been held at every tick since. Of a cause
+ * that was let go and came again it is the tick at which it came again. Struck ticks do not count.
+ *
+ * Reads the n records of the desk and writes nothing: the drive goes on with the same desk. Tick t is t tenths of a
+ * second after the start, so that each cause is printed with its tick and its time in minutes and seconds by
+ *
+ *   foldharbor_reasons why = foldharbor_why(out.desk, journal, sizeof journal);
+ *
+ *   for (unsigned bit = 0; bit < FOLDHARBOR_CAUSES; bit++) {
+ *       unsigned tick = why.causes[bit].tick;
+ *
+ *       if (tick > 0)
+ *           printf("NZ%u since tick %u, %u:%02u.%u\n", bit + 1, tick, tick / 600, tick / 10 % 60, tick % 10);
+ *   }
+ *
+ * The text of the cause is message FOLDHARBOR_TEXT_CAUSE + bit. A refusal gives zeros, so that this prints nothing.
+ * Refusals: FOLDHARBOR_BAD_DESK, FOLDHARBOR_SHORT_JOURNAL, FOLDHARBOR_BAD_RECORD, FOLDHARBOR_OTHER_DESK,
+ * FOLDHARBOR_VALVE_CLOSED, also where the host alone opened the valve.
+ */
+foldharbor_reasons foldharbor_why(foldharbor_desk desk, const uint8_t *journal, size_t journal_length);
 
 /*
  * Bytes. Numbers of 16 bits have their low byte first. docs/FORMATS.md in the source has every format with examples.
@@ -476,8 +527,8 @@ enum {
     FOLDHARBOR_TEXT_ONE_TIME_PROMPT = 11, /* + kind of that prompt, 0 or 1: bit 4 of the marks where bit 3 is set */
     FOLDHARBOR_TEXT_CODE = 14,            /* + signal code, 0 to 4: none, Stop, Warning, 40 and warning, Clear */
     FOLDHARBOR_TEXT_MODE = 18,            /* + mode, 1 to 4: POS, PRE, VYL, ZAV */
-    FOLDHARBOR_TEXT_REFUSAL = 22,         /* + number of the refusal, 1 to 17 */
-    FOLDHARBOR_TEXTS = 40                 /* how many there are */
+    FOLDHARBOR_TEXT_REFUSAL = 22,         /* + number of the refusal, 1 to 23 */
+    FOLDHARBOR_TEXTS = 46                 /* how many there are */
 };
 
 #ifdef __cplusplus

@@ -5,9 +5,10 @@
  *
  * A key that is pressed in a terminal acts in the next tick. If standard input is none, each of its bytes is the key of
  * a tick: one that is no key, such as a dot, stands for none, and behind the last one the drive goes on without keys.
- * Back and restart act just before their tick is played. The train goes back with the desk, so that the same keys then
- * give the same lines again. A terminal shows one line, written anew; into a file or a pipe goes a line for each tick.
- * Where ticks stay refused for a second, no protection is left: then the host opens the valve, until one is accepted.
+ * Back, restart and why act just before their tick is played. The train goes back with the desk, so that the same keys
+ * then give the same lines again. A terminal shows one line, written anew; into a file or a pipe goes a line for each
+ * tick. Where ticks stay refused for a second, no protection is left: then the host opens the valve, until one is
+ * accepted.
  *
  * Ends with 0; with 2 where the words make no sense, the input can't be read or the output can't be written; or, in a
  * terminal, with 128 and the number of the signal that ended it (INT, TERM, HUP, QUIT), the terminal being as it was.
@@ -44,7 +45,7 @@ enum { /* of the made-up train: by how much its speed changes in a tick, in tent
 
 static const char usage[] = "usage: live [--fast]\n";
 static const char keys_help[] = "keys: space vigilance, + PLUS, m MAN, b back by 30 s or to the start,\n"
-                                "r restart, x a failing reading (the speed is not a number), q quit\n";
+                                "r restart, w why the valve is open, x a failing reading (no number), q quit\n";
 static const char heading[] = " time   km/h  permitted  target  signal          valve\n";
 
 static const foldharbor_card card = {
@@ -250,6 +251,25 @@ static foldharbor_desk restart(foldharbor_desk desk)
     return out.desk;
 }
 
+/* Tells since when each cause is held. The valve is also open where the host alone opened it. */
+static void tell_why(foldharbor_desk desk)
+{
+    foldharbor_reasons why = foldharbor_why(desk, journal, sizeof journal);
+
+    begin_line();
+    if (why.refusal == FOLDHARBOR_VALVE_CLOSED)
+        puts("no cause is held");
+    else if (why.refusal != 0)
+        printf("why refused: %u\n", why.refusal);
+    for (unsigned bit = 0; bit < FOLDHARBOR_CAUSES; bit++) {
+        const foldharbor_reason *reason = &why.causes[bit];
+
+        if (reason->tick > 0)
+            printf("NZ%u held since tick %u, %.1f s, at %.1f km/h\n", bit + 1, reason->tick, reason->tick / 10.0,
+                   reason->reading.v / 10.0);
+    }
+}
+
 /* ---- The terminal */
 
 static void fail(const char *what)
@@ -331,6 +351,8 @@ static void drive(foldharbor_desk desk, bool fast)
             desk = step_back(desk);
         if (is_pressed('r'))
             desk = restart(desk);
+        if (is_pressed('w'))
+            tell_why(desk);
         desk = play_tick(desk);
     }
 }

@@ -59,8 +59,18 @@ rm -r "$tree/crates/foldharbor/proofs/foldharbor_restart"
 change foldharbor_exercise/src/lib.rt 's/file::read(exercise)/let mut counts = &; let runs = counts.runs; counts.ticks = runs; counts/' \
     -e 's/x ≡ \(readOutcome (now (exercise \.entry))\)/x ≡ record { refusal = \1 .refusal; cards = \1 .cards; runs = \1 .runs; ticks = \1 .runs }/'
 change foldharbor_exercise/proofs/foldharbor_read_exercise/Proof.antt 's/^returns c = .*/returns c = rw (← c .read .ensures)/'
-refused "foldharbor foldharbor_back foldharbor_exercise" \
-    "Functions:same-opens Functions:same-ticks Functions:same-steps-back Functions:same-restarts Functions:same-reads Functions:exported-same"
+# a call that tells why of the desk as its journal rebuilds it, and so never gives 23
+change foldharbor_why/src/lib.rt 's/whyReasons desk (\(now (journal \.entry)\))/whyReasons (backOutcome desk 0 (\1) .desk) (\1)/' \
+    -e 's/why::why(desk, journal)/let back = desk.step_back(0, journal).desk; why::why(back, journal)/' \
+    -e 's/^ghost use Rattle.*/&\nghost use Rattle.desk.specs.Calls.{backOutcome};/'
+change foldharbor_why/proofs/foldharbor_why/Proof.antt '/^why-requires :/i\
+step-back-requires : tie.Need-step-back-requires\
+step-back-requires c κs = search needs\
+' -e 's/^returns c = .*/returns c = rw (← c .before .before .step-back .ensures) (c .why .ensures)/' \
+    -e 's/spec why-requires/spec step-back-requires why-requires/'
+refused "foldharbor foldharbor_back foldharbor_why foldharbor_exercise" \
+    "Functions:same-opens Functions:same-ticks Functions:same-steps-back Functions:same-restarts Functions:same-tells Functions:same-reads
+    Functions:exported-same"
 
 # ---- functions and their exports that are alike, and wrong
 copy functions

@@ -1,6 +1,7 @@
 /*
- * Measures the calls against the model in one process, on the same exercises and on the same drive.
- * The two take turns and the best turn of each counts, so that other work on the machine weighs on neither.
+ * Measures the calls against the model in one process, on the same exercises and on the same drive; and why against a
+ * step back by 0, which goes over the same records. The two take turns and the best turn of each counts, so that other
+ * work on the machine weighs on neither.
  *
  *   bench [TURNS]
  */
@@ -45,6 +46,8 @@ static uint8_t journal_of_call[FOLDHARBOR_JOURNAL_BYTES];
 static uint8_t journal_of_model[FOLDHARBOR_JOURNAL_BYTES];
 static foldharbor_outcome driven_by_call, stepped_back_by_call;
 static struct outcome driven_by_model, stepped_back_by_model;
+static foldharbor_reasons told_by_call;
+static struct reasons told_by_model;
 
 static double now(void)
 {
@@ -63,19 +66,24 @@ static double turn(work *once, int times)
     return (now() - start) / times;
 }
 
-static void measure(const char *what, work *of_call, work *of_model, int times, double units)
+static void compare(const char *what, work *one, work *other, const char *name_of_other, int times, double units)
 {
-    double best_of_call = 1e18, best_of_model = 1e18;
+    double best_of_one = 1e18, best_of_other = 1e18;
 
     for (long i = 0; i < turns; i++) {
-        double call = turn(of_call, times);
-        double model = turn(of_model, times);
+        double time_of_one = turn(one, times);
+        double time_of_other = turn(other, times);
 
-        best_of_call = call < best_of_call ? call : best_of_call;
-        best_of_model = model < best_of_model ? model : best_of_model;
+        best_of_one = time_of_one < best_of_one ? time_of_one : best_of_one;
+        best_of_other = time_of_other < best_of_other ? time_of_other : best_of_other;
     }
-    printf("%-46s call %7.2f ns   model %7.2f ns   ratio %5.2f\n", what, best_of_call / units, best_of_model / units,
-           best_of_call / best_of_model);
+    printf("%-46s call %7.2f ns   %-5s %7.2f ns   ratio %5.2f\n", what, best_of_one / units, name_of_other,
+           best_of_other / units, best_of_one / best_of_other);
+}
+
+static void measure(const char *what, work *of_call, work *of_model, int times, double units)
+{
+    compare(what, of_call, of_model, "model", times, units);
 }
 
 static void run_by_call(void)
@@ -152,6 +160,21 @@ static void step_back_by_model(void)
         model_desk_step_back(driven_by_model.desk, STRUCK, journal_of_model, sizeof journal_of_model);
 }
 
+static void step_back_by_0(void)
+{
+    stepped_back_by_call = foldharbor_step_back(driven_by_call.desk, 0, journal_of_call, sizeof journal_of_call);
+}
+
+static void tell_by_call(void)
+{
+    told_by_call = foldharbor_why(driven_by_call.desk, journal_of_call, sizeof journal_of_call);
+}
+
+static void tell_by_model(void)
+{
+    told_by_model = model_desk_why(driven_by_model.desk, journal_of_model, sizeof journal_of_model);
+}
+
 static foldharbor_sample sample_of(const uint8_t *record)
 {
     static const float pressure[] = {2.0f, 4.0f, 5.0f}; /* bar, one of each band */
@@ -167,7 +190,7 @@ static foldharbor_sample sample_of(const uint8_t *record)
     };
 }
 
-/* The drive of an exercise: its first card, and a sample for each tick of its runs. */
+/* The drive of an exercise: its first card, and a sample for each tick of its runs. The last is too fast: NZ2. */
 static void make_drive(void)
 {
     const uint8_t *run = exercise + HEADER_BYTES + CARD_BYTES;
@@ -180,6 +203,7 @@ static void make_drive(void)
             samples_of_model[made] = model_of_sample(&samples[made]);
         }
     }
+    samples[DRIVE_TICKS - 1].speed = samples_of_model[DRIVE_TICKS - 1].speed = MOST_SPEED / 36.0f;
 }
 
 static bool same_drives(void)
@@ -188,8 +212,11 @@ static bool same_drives(void)
     drive_by_model();
     step_back_by_call();
     step_back_by_model();
+    tell_by_call();
+    tell_by_model();
     return driven_by_call.desk.n == DRIVE_TICKS && !compare_outcomes(&driven_by_call, &driven_by_model).name &&
-           !compare_outcomes(&stepped_back_by_call, &stepped_back_by_model).name &&
+           !compare_outcomes(&stepped_back_by_call, &stepped_back_by_model).name && told_by_call.refusal == 0 &&
+           !compare_reasons(&told_by_call, &told_by_model).name &&
            memcmp(journal_of_call, journal_of_model, sizeof journal_of_call) == 0;
 }
 
@@ -222,5 +249,8 @@ int main(int count, char **arguments)
     measure("a drive of 7,000 ticks, a tick:", drive_by_call, drive_by_model, CALLS_A_TURN, DRIVE_TICKS);
     measure("a step back by 10 from there, a tick left:", step_back_by_call, step_back_by_model, CALLS_A_TURN,
             DRIVE_TICKS - STRUCK);
+    measure("why the valve is open there, a tick:", tell_by_call, tell_by_model, CALLS_A_TURN, DRIVE_TICKS);
+    compare("the same against a step back by 0, a tick:", tell_by_call, step_back_by_0, "back", CALLS_A_TURN,
+            DRIVE_TICKS);
     return 0;
 }

@@ -16,7 +16,7 @@ enum {
     SENTINEL_OF_MODEL = 0xA5
 };
 
-enum call { OPEN, TICK, STEP_BACK, RESTART, CALLS };
+enum call { OPEN, TICK, STEP_BACK, RESTART, WHY, CALLS };
 
 /* What was handed over last, for the message of a difference. */
 struct handed {
@@ -27,7 +27,7 @@ struct handed {
     size_t journal_length;
 };
 
-static const char *const call_names[CALLS] = {"open", "tick", "step back", "restart"};
+static const char *const call_names[CALLS] = {"open", "tick", "step back", "restart", "why"};
 
 static uint8_t area_of_call[SENTINELS + LONGEST_JOURNAL + SENTINELS];
 static uint8_t area_of_model[SENTINELS + LONGEST_JOURNAL + SENTINELS];
@@ -40,6 +40,9 @@ static struct handed handed;
 static uint64_t calls, different;
 
 static uint64_t refusals_seen[CALLS][UINT8_MAX + 1]; /* by number; 0 counts what was accepted */
+static uint64_t reasons_seen[FOLDHARBOR_CAUSES];     /* that were given, by cause */
+static uint64_t at_once_seen[FOLDHARBOR_CAUSES + 1]; /* by how many were given */
+static uint64_t from_first_tick_seen;
 
 static void print_desk(const foldharbor_desk *desk, size_t fields)
 {
@@ -57,6 +60,11 @@ static void print_sample(const foldharbor_sample *sample)
            sample->flags, sample->sense);
 }
 
+static bool takes_journal(enum call call)
+{
+    return call == TICK || call == STEP_BACK || call == WHY;
+}
+
 static void print_handed(void)
 {
     print_desk(&handed.desk, handed.call == OPEN ? CARD_FIELDS : DESK_FIELDS);
@@ -64,7 +72,7 @@ static void print_handed(void)
         print_sample(&handed.sample);
     if (handed.call == STEP_BACK)
         printf("  by %" PRIu32 "\n", handed.count);
-    if (handed.call == TICK || handed.call == STEP_BACK)
+    if (takes_journal(handed.call))
         printf("  journal of %zu bytes\n", handed.journal_length);
 }
 
@@ -77,7 +85,7 @@ static bool first_difference(void)
     return true;
 }
 
-static void report_outcome(const struct difference *difference)
+static void report_result(const struct difference *difference)
 {
     if (!first_difference())
         return;
@@ -151,17 +159,16 @@ const uint8_t *journal_record(uint32_t place)
 }
 
 /* Only an accepted tick writes, and only its record: what the model wrote there the call has to have written too. */
-static void keep_record(const struct outcome *of_model)
+static void keep_record(void)
 {
     size_t at = (size_t)RECORD_BYTES * handed.desk.n;
 
-    if (handed.call == TICK && of_model->refusal == 0 && at + RECORD_BYTES <= laid)
+    if (at + RECORD_BYTES <= laid)
         memcpy(kept + at, journal_of_model + at, RECORD_BYTES);
 }
 
-static void compare_journals(const struct outcome *of_model)
+static void compare_journals(void)
 {
-    keep_record(of_model);
     if (memcmp(journal_of_call, kept, laid) == 0 && memcmp(journal_of_model, kept, laid) == 0)
         return;
     report_journals();
@@ -178,7 +185,15 @@ static void compare_sentinels(void)
         lay_sentinels();
 }
 
-static void tally(const foldharbor_outcome *outcome)
+static void compare_lent(void)
+{
+    if (!takes_journal(handed.call))
+        return;
+    compare_journals();
+    compare_sentinels();
+}
+
+static void tally_outcome(const foldharbor_outcome *outcome)
 {
     refusals_seen[handed.call][outcome->refusal]++;
     if (handed.call != TICK || outcome->refusal != 0)
@@ -188,6 +203,21 @@ static void tally(const foldharbor_outcome *outcome)
 
     tally_ticks(state->mode, state->signal.codes.last, 1);
     tally_answer(answer->marks, answer->causes, answer->lowest, answer->held);
+}
+
+static void tally_reasons(const foldharbor_reasons *reasons)
+{
+    uint32_t given = 0;
+
+    refusals_seen[WHY][reasons->refusal]++;
+    for (uint32_t i = 0; i < FOLDHARBOR_CAUSES; i++) {
+        uint16_t tick = reasons->causes[i].tick;
+
+        given += tick > 0;
+        reasons_seen[i] += tick > 0;
+        from_first_tick_seen += tick == 1;
+    }
+    at_once_seen[given]++;
 }
 
 /* Zeros and the desk handed in, whatever the model says; of a refused opening a desk of zeros. */
@@ -206,15 +236,30 @@ static foldharbor_outcome compare(foldharbor_outcome of_call, struct outcome of_
 
     calls++;
     if (difference.name)
-        report_outcome(&difference);
+        report_result(&difference);
     else
-        tally(&of_call);
+        tally_outcome(&of_call);
     if (of_call.refusal != 0)
         compare_refusal(&of_call);
-    if (handed.call == TICK || handed.call == STEP_BACK) {
-        compare_journals(&of_model);
-        compare_sentinels();
-    }
+    if (handed.call == TICK && of_model.refusal == 0)
+        keep_record();
+    compare_lent();
+    return of_call;
+}
+
+static foldharbor_reasons compare_whys(foldharbor_reasons of_call, struct reasons of_model)
+{
+    struct difference difference = compare_reasons(&of_call, &of_model);
+    struct reasons refused = {.refusal = of_call.refusal};
+
+    calls++;
+    if (difference.name)
+        report_result(&difference);
+    else
+        tally_reasons(&of_call);
+    if (of_call.refusal != 0)
+        expect(!compare_reasons(&of_call, &refused).name, "a refusal gives something else than zeros");
+    compare_lent();
     return of_call;
 }
 
@@ -244,6 +289,13 @@ foldharbor_outcome both_restart(foldharbor_desk desk)
     return compare(foldharbor_restart(desk), model_desk_restart(model_of_desk(&desk)));
 }
 
+foldharbor_reasons both_why(foldharbor_desk desk, size_t journal_length)
+{
+    handed = (struct handed){.call = WHY, .desk = desk, .journal_length = journal_length};
+    return compare_whys(foldharbor_why(desk, journal_of_call, journal_length),
+                        model_desk_why(model_of_desk(&desk), journal_of_model, journal_length));
+}
+
 uint64_t calls_made(void)
 {
     return calls;
@@ -261,6 +313,7 @@ static bool report_refusals(enum call call)
         [TICK] = {5, 6, 7, 1, 2, 3},
         [STEP_BACK] = {5, 6, 8, 9},
         [RESTART] = {5},
+        [WHY] = {5, 6, 9, 23, 14},
     };
     bool all = true;
     char what[32];
@@ -274,6 +327,22 @@ static bool report_refusals(enum call call)
     return all;
 }
 
+static bool report_reasons(void)
+{
+    bool all = true;
+    char what[32];
+
+    for (uint32_t i = 0; i < FOLDHARBOR_CAUSES; i++) {
+        snprintf(what, sizeof what, "why NZ%" PRIu32, i + 1);
+        all &= report_seen(what, reasons_seen[i]);
+    }
+    for (uint32_t count = 1; count <= FOLDHARBOR_CAUSES; count++) {
+        snprintf(what, sizeof what, "why of %" PRIu32 " at once", count);
+        all &= report_seen(what, at_once_seen[count]);
+    }
+    return all & report_seen("why from tick 1 on", from_first_tick_seen);
+}
+
 bool report_seen_in_calls(void)
 {
     bool all = true;
@@ -281,6 +350,7 @@ bool report_seen_in_calls(void)
     printf("seen in what was compared, calls on a desk:\n");
     for (enum call call = OPEN; call < CALLS; call++)
         all &= report_refusals(call);
+    all &= report_reasons();
     printf("accepted ticks:\n");
     all &= report_ticks();
     return all;

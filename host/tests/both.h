@@ -26,6 +26,7 @@ foldharbor_outcome both_open(foldharbor_card card);
 foldharbor_outcome both_tick(foldharbor_desk desk, foldharbor_sample sample, size_t journal_length);
 foldharbor_outcome both_step_back(foldharbor_desk desk, uint32_t count, size_t journal_length);
 foldharbor_outcome both_restart(foldharbor_desk desk);
+foldharbor_reasons both_why(foldharbor_desk desk, size_t journal_length);
 
 /* The record at its place, as the call left it. */
 const uint8_t *journal_record(uint32_t place);

@@ -36,6 +36,24 @@ static foldharbor_desk play(foldharbor_card card)
     return out.desk;
 }
 
+/* In POS 50 m/s are too fast: NZ2, from the first tick on. */
+static void tell_why(foldharbor_card card)
+{
+    foldharbor_sample fast = {50.0f, 5.0f, FOLDHARBOR_CODE_CLEAR, FOLDHARBOR_MODE_PRE, FOLDHARBOR_FORWARD,
+                              FOLDHARBOR_FLAG_CAB_ON, FOLDHARBOR_FORWARD};
+    foldharbor_outcome out = foldharbor_open(card);
+
+    expect(foldharbor_why(out.desk, journal, 0).refusal == FOLDHARBOR_VALVE_CLOSED, "why of a closed valve");
+    out = foldharbor_tick(out.desk, fast, journal, sizeof journal);
+
+    foldharbor_reasons why = foldharbor_why(out.desk, journal, sizeof journal);
+
+    expect(why.refusal == 0 && why.causes[0].tick == 0 && why.causes[1].tick == 1, "why");
+    expect(why.causes[1].reading.v == 1800 && why.causes[1].reading.sense == FOLDHARBOR_FORWARD, "why's record");
+    out.desk.state.causes = FOLDHARBOR_NZ1;
+    expect(foldharbor_why(out.desk, journal, sizeof journal).refusal == FOLDHARBOR_OTHER_DESK, "why of another desk");
+}
+
 static void run(void)
 {
     /* one card, and one run of 9 ticks that stands in PRE under Clear */
@@ -64,6 +82,7 @@ int main(void)
     expect(foldharbor_step_back(desk, 2, journal, sizeof journal).refusal == FOLDHARBOR_BACK_TOO_FAR, "step_back");
     expect(foldharbor_restart(desk).desk.n == 0, "restart");
     expect(foldharbor_text(table, sizeof table, table, sizeof table, 1, 0).end == 9, "text");
+    tell_why(card);
     run();
     return failures > 0;
 }

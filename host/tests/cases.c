@@ -15,7 +15,9 @@ enum { /* by the rules */
        REFUSED_DESK = 5,
        REFUSED_SHORT = 6,
        REFUSED_FULL = 7,
-       REFUSED_RECORD = 9
+       REFUSED_RECORD = 9,
+       REFUSED_CLOSED = 14,
+       REFUSED_OTHER = 23
 };
 
 /* A journal full of records in range. */
@@ -141,6 +143,7 @@ static void compare_judgement(struct dice *dice, foldharbor_desk desk, bool in_r
     expect((outcome.refusal != REFUSED_DESK) == in_range, "a step back takes another range");
     outcome = both_restart(desk);
     expect((outcome.refusal != REFUSED_DESK) == in_range, "a restart takes another range");
+    expect((both_why(desk, FOLDHARBOR_JOURNAL_BYTES).refusal != REFUSED_DESK) == in_range, "why takes another range");
 }
 
 /* The desk with the field at the ends of its range, next to them, and far out. */
@@ -235,6 +238,57 @@ static void compare_faults_of_step_back(struct dice *dice, uint32_t faults)
            "another fault of the step back comes first");
 }
 
+/* The desk of some card that the first n records of the journal rebuild. */
+static foldharbor_desk rebuilt_desk(struct dice *dice, uint32_t n)
+{
+    foldharbor_desk desk = some_desk(dice, 0);
+
+    desk.n = n;
+    return both_step_back(desk, 0, RECORD_BYTES * n).desk;
+}
+
+/* A train that stands: in POS it triggers nothing, in PRE with remote stop NZ4. */
+static void lay_standing_record(struct dice *dice, uint32_t place, bool remote_stop)
+{
+    struct record record = some_record(dice);
+    uint8_t bytes[RECORD_BYTES];
+
+    record.speed = 0;
+    record.mode = remote_stop ? MODE_PRE : MODE_POS;
+    if (remote_stop)
+        record.flags |= FLAG_REMOTE_STOP;
+    model_write_record(bytes, &record);
+    lay_record(place, bytes);
+}
+
+/* A desk with a closed valve is another one than the journal's where that has NZ4. */
+static void compare_faults_of_why(struct dice *dice, uint32_t faults)
+{
+    enum { DESK = 1 << 0, SHORT = 1 << 1, RECORD = 1 << 2, OTHER = 1 << 3, CLOSED = 1 << 4 };
+    static const uint8_t order[] = {5, 6, 9, 23, 14};
+    const bool closed_by_journal = (faults & (OTHER | CLOSED)) == CLOSED;
+    const uint32_t n = dice_between(dice, 1, 20);
+    size_t length = (size_t)RECORD_BYTES * n + dice_roll(dice, 2 * RECORD_BYTES);
+
+    for (uint32_t place = closed_by_journal ? 0 : n - 1; place < n; place++)
+        lay_standing_record(dice, place, !closed_by_journal);
+    lay_bad_record(n, dice_roll(dice, RECORD_FAULTS)); /* behind the last one it does not matter */
+
+    foldharbor_desk desk = rebuilt_desk(dice, n);
+
+    if (faults & RECORD)
+        lay_bad_record(dice_roll(dice, n), dice_roll(dice, RECORD_FAULTS));
+    if (faults & OTHER)
+        desk = changed_desk(dice, desk);
+    if (faults & CLOSED)
+        desk.state.causes = 0;
+    if (faults & SHORT)
+        length = dice_roll(dice, RECORD_BYTES * n);
+    if (faults & DESK)
+        desk = bent_desk(dice, desk);
+    expect(both_why(desk, length).refusal == first_of(order, faults), "another fault comes first where why is asked");
+}
+
 static void compare_faults(struct dice *dice)
 {
     for (uint32_t times = 0; times < 40; times++) {
@@ -245,6 +299,84 @@ static void compare_faults(struct dice *dice)
         for (uint32_t faults = 0; faults < 1 << 4; faults++) {
             lay_some_journal(dice, 25 * RECORD_BYTES);
             compare_faults_of_step_back(dice, faults);
+        }
+        for (uint32_t faults = 0; faults < 1 << 5; faults++) {
+            lay_some_journal(dice, 25 * RECORD_BYTES);
+            compare_faults_of_why(dice, faults);
+        }
+    }
+}
+
+/*
+ * All causes at once, which drives hardly come to: in VYL, without a press, a stand for the card's wait, and then too
+ * fast by any tolerance and in no direction for a whole cycle. Remote stop is any time.
+ */
+static void compare_five_causes(struct dice *dice)
+{
+    foldharbor_desk desk = both_open(some_card(dice)).desk;
+    const uint32_t stand = desk.card.wait, ticks = stand + 1 + desk.card.cycle;
+
+    lay_journal(RECORD_BYTES * ticks, 0);
+    for (uint32_t place = 0; place < ticks; place++) {
+        struct record record = some_record(dice);
+        uint8_t bytes[RECORD_BYTES];
+
+        record.speed = place < stand ? 0 : dice_between(dice, VYL_CEILING + 101, MOST_SPEED);
+        record.mode = MODE_VYL;
+        record.flags &= ~(FLAG_VIGILANCE | FLAG_DIRECT_BRAKE);
+        record.band = BRAKES_RELEASED;
+        record.sense = 0;
+        model_write_record(bytes, &record);
+        lay_record(place, bytes);
+    }
+    desk.n = ticks;
+    desk = both_step_back(desk, 0, RECORD_BYTES * ticks).desk;
+
+    foldharbor_reasons why = both_why(desk, RECORD_BYTES * ticks);
+
+    expect(why.causes[4].tick == stand, "NZ5 begins elsewhere");
+    expect(why.causes[1].tick == stand + 1, "NZ2 begins elsewhere");
+    expect(why.causes[2].tick == stand + 2 || why.causes[2].tick == stand + 3, "NZ3 begins elsewhere");
+    expect(why.causes[0].tick == ticks, "NZ1 begins elsewhere");
+}
+
+/*
+ * One field with another number: in the state it makes another desk than the journal's. With another card or n the
+ * journal may rebuild just that desk.
+ */
+static void compare_other_desk(foldharbor_desk desk, const struct field *field, uint32_t value, size_t length)
+{
+    const uint32_t own = get_field(&desk, field);
+
+    set_field(&desk, field, value);
+    value = get_field(&desk, field);
+
+    uint32_t refusal = both_why(desk, length).refusal;
+
+    if (!field_takes(field, value))
+        expect(refusal == REFUSED_DESK, "why is told of a desk out of range");
+    else if (length < (size_t)RECORD_BYTES * desk.n)
+        expect(refusal == REFUSED_SHORT, "why is told of a journal that is too short");
+    else if (field >= desk_fields + FIRST_STATE_FIELD && value != own)
+        expect(refusal == REFUSED_OTHER, "why is told of another desk");
+}
+
+static void compare_other_desks(struct dice *dice)
+{
+    enum { TICKS = 30, LENGTH = TICKS * RECORD_BYTES };
+
+    for (uint32_t times = 0; times < 40; times++) {
+        lay_some_journal(dice, LENGTH);
+
+        foldharbor_desk desk = rebuilt_desk(dice, dice_roll(dice, TICKS + 1));
+
+        for (const struct field *field = desk_fields; field < desk_fields + DESK_FIELDS; field++) {
+            const uint32_t own = get_field(&desk, field);
+            const uint32_t values[] = {
+                own - 1, own, own + 1, field->least - 1, field->least, field->most, field->most + 1, UINT16_MAX, 0};
+
+            for (size_t i = 0; i < sizeof values / sizeof values[0]; i++)
+                compare_other_desk(desk, field, values[i], LENGTH);
         }
     }
 }
@@ -273,6 +405,8 @@ static void compare_steps_back(foldharbor_desk desk, size_t length)
 
     for (size_t i = 0; i < sizeof counts / sizeof counts[0]; i++)
         both_step_back(desk, counts[i], length);
+    both_why(desk, length);
+    both_why(both_step_back(desk, 0, length).desk, length);
 }
 
 static void compare_short_journals(struct dice *dice)
@@ -301,7 +435,7 @@ static void compare_long_journal(struct dice *dice, size_t length)
         both_step_back(desk, n - dice_roll(dice, 50), length);
         both_step_back(desk, n + 1, length);
         if (length / RECORD_BYTES == FOLDHARBOR_MOST_TICKS)
-            both_step_back(desk, dice_roll(dice, 3), length);
+            both_why(both_step_back(desk, dice_roll(dice, 3), length).desk, length);
     }
 }
 
@@ -330,8 +464,12 @@ static void compare_bad_records(struct dice *dice)
             lay_bad_record(place, fault);
             for (uint32_t left = 0; left <= TICKS; left++) {
                 foldharbor_outcome outcome = both_step_back(desk, TICKS - left, TICKS * RECORD_BYTES);
+                uint32_t refusal = both_why(outcome.desk, TICKS * RECORD_BYTES).refusal;
+                uint32_t wanted = outcome.desk.state.causes == 0 ? REFUSED_CLOSED : 0;
 
                 expect(outcome.refusal == (place < left ? REFUSED_RECORD : 0), "a bad record counts elsewhere");
+                /* a refused step back gives back the desk with all its ticks */
+                expect(refusal == (place < left ? REFUSED_RECORD : wanted), "a bad record counts elsewhere for why");
             }
         }
     }
@@ -350,6 +488,7 @@ static void compare_bad_records_of_long_drive(struct dice *dice)
         lay_bad_record(places[i], dice_roll(dice, RECORD_FAULTS));
         both_step_back(desk, 0, FOLDHARBOR_JOURNAL_BYTES);
         both_step_back(desk, 1, FOLDHARBOR_JOURNAL_BYTES);
+        expect(both_why(desk, FOLDHARBOR_JOURNAL_BYTES).refusal == REFUSED_RECORD, "a bad record is taken");
     }
 }
 
@@ -373,6 +512,8 @@ static void compare_unreached(struct dice *dice, size_t length)
         both_step_back(desk, some_count(dice, desk.n), length);
     if (dice_once_in(dice, 8))
         both_restart(desk);
+    if (dice_once_in(dice, 4))
+        both_why(desk, length);
 }
 
 /* Bytes of any kind in a part of a desk, or in all of it. */
@@ -398,6 +539,7 @@ static void compare_any_bytes(struct dice *dice, size_t length)
     both_tick(desk, sample, length);
     both_step_back(desk, dice_once_in(dice, 2) ? dice_roll(dice, UINT32_MAX) : some_count(dice, desk.n), length);
     both_restart(desk);
+    both_why(desk, length);
 }
 
 static void compare_desks(struct dice *dice)
@@ -420,6 +562,9 @@ void compare_cases(struct dice *dice)
     compare_readings(dice);
     compare_ranges(dice);
     compare_faults(dice);
+    compare_other_desks(dice);
+    for (uint32_t times = 0; times < 40; times++)
+        compare_five_causes(dice);
     compare_short_journals(dice);
     compare_long_journals(dice);
     compare_bad_records(dice);

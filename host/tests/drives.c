@@ -1,5 +1,6 @@
 /*
- * Compares the calls on a desk with the model: drives with steps back and restarts, and cases beside them.
+ * Compares the calls on a desk with the model: drives with steps back and restarts, in which why is asked, and cases
+ * beside them.
  *
  *   drives [SEED [COUNT]]
  */
@@ -9,14 +10,23 @@
 #include <string.h>
 
 #include "both.h"
+#include "bytes.h"
 #include "cases.h"
 #include "fields.h"
 #include "generate.h"
+#include "seen.h"
 #include "some.h"
+
+enum { /* by the rules */
+       REFUSED_RECORD = 9,
+       REFUSED_CLOSED = 14,
+       REFUSED_OTHER = 23
+};
 
 enum { DEFAULT_SEED = 7200, DEFAULT_COUNT = 6000, MEAN_RUN = 6, MOST_RUN = 700 };
 
 static uint64_t seed, drives;
+static uint64_t held_again_seen; /* causes that were let go and came again, where why was asked */
 
 struct drive {
     struct dice *dice;
@@ -84,6 +94,71 @@ static void restart(struct drive *drive)
     go_on(drive, both_restart(drive->desk));
 }
 
+static bool was_held(uint32_t ticks, uint32_t cause)
+{
+    return ticks > 0 && history[ticks].answer[5] & cause;
+}
+
+/* Whether the cause was held in no tick of the drive's before this one. */
+static bool first_time(uint32_t tick, uint32_t cause)
+{
+    while (tick > 0 && !was_held(tick - 1, cause))
+        tick--;
+    return tick == 0;
+}
+
+static bool is_record(const foldharbor_record *reading, const uint8_t *record)
+{
+    return reading->v == read_half(record) && reading->code == record[2] && reading->mode == record[3] &&
+           reading->lever == record[4] && reading->flags == record[5] && reading->band == record[6] &&
+           reading->sense == record[7];
+}
+
+/* Whether a reason goes with what the ticks answered and recorded: off before, on since, and that tick's record. */
+static bool goes_with_history(const foldharbor_reason *reason, uint32_t ticks, uint32_t cause)
+{
+    if (reason->tick == 0)
+        return !was_held(ticks, cause);
+    if (reason->tick > ticks || was_held(reason->tick - 1, cause))
+        return false;
+    while (ticks >= reason->tick && was_held(ticks, cause))
+        ticks--;
+    return ticks == reason->tick - 1u && is_record(&reason->reading, journal_record(ticks));
+}
+
+static void ask_why(struct drive *drive)
+{
+    uint16_t ticks = drive->desk.n;
+    foldharbor_reasons why = both_why(drive->desk, drive->length);
+
+    expect(why.refusal == (drive->desk.state.causes == 0 ? REFUSED_CLOSED : 0), "why is refused for another reason");
+    for (uint32_t bit = 0; bit < FOLDHARBOR_CAUSES; bit++) {
+        const foldharbor_reason *reason = &why.causes[bit];
+
+        expect(goes_with_history(reason, ticks, 1u << bit), "a reason does not go with what the ticks gave");
+        held_again_seen += reason->tick > 0 && !first_time(reason->tick, 1u << bit);
+    }
+}
+
+/* Why is asked of another desk, or of a journal with a record out of range, and is refused. */
+static void ask_why_of_other(struct drive *drive)
+{
+    struct dice *dice = drive->dice;
+    uint32_t n = drive->desk.n, place = dice_roll(dice, n);
+    uint8_t record[RECORD_BYTES], spoilt[RECORD_BYTES];
+
+    expect(both_why(changed_desk(dice, drive->desk), drive->length).refusal == REFUSED_OTHER,
+           "another desk is taken for the one that the journal rebuilds");
+    if (n == 0)
+        return;
+    memcpy(record, journal_record(place), sizeof record);
+    memcpy(spoilt, record, sizeof spoilt);
+    spoil_record(spoilt, dice_roll(dice, RECORD_FAULTS));
+    lay_record(place, spoilt);
+    expect(both_why(drive->desk, drive->length).refusal == REFUSED_RECORD, "a bad record is taken");
+    lay_record(place, record);
+}
+
 /* A call that is refused. */
 static void disturb(struct drive *drive)
 {
@@ -91,7 +166,7 @@ static void disturb(struct drive *drive)
     foldharbor_sample sample = sample_of(dice, &drive->driver.record);
     size_t shorter = dice_roll(dice, RECORD_BYTES * (drive->desk.n + 1)); /* without room for one more record */
 
-    switch (dice_roll(dice, 8)) {
+    switch (dice_roll(dice, 10)) {
     case 0:
         both_tick(bent_desk(dice, drive->desk), sample, drive->length);
         return;
@@ -108,9 +183,15 @@ static void disturb(struct drive *drive)
         go_on(drive, both_tick(drive->desk, sample, shorter < drive->length ? shorter : drive->length));
         return;
     case 5:
+        both_why(bent_desk(dice, drive->desk), drive->length);
+        return;
+    case 6:
+        ask_why_of_other(drive);
+        return;
+    case 7:
         spoil_speed(dice, &sample);
         break;
-    case 6:
+    case 8:
         spoil_pressure(dice, &sample);
         break;
     default:
@@ -137,6 +218,8 @@ static void compare_drive(void)
             disturb(&drive);
         else if (!drive_on(&drive))
             step_back(&drive, some_count(&dice, drive.desk.n));
+        if (dice_once_in(&dice, 8))
+            ask_why(&drive);
     }
 }
 
@@ -150,6 +233,8 @@ static void compare_long_drive(size_t length)
     for (uint64_t end = calls_made() + 2 * capacity; calls_made() < end && drive_on(&drive);)
         ;
     expect(drive.desk.n == capacity, "the journal is full elsewhere");
+    ask_why(&drive);
+    ask_why_of_other(&drive);
     step_back(&drive, 0);
     step_back(&drive, 1);
     tick(&drive);
@@ -157,7 +242,9 @@ static void compare_long_drive(size_t length)
     disturb(&drive);
     step_back(&drive, drive.desk.n / 2);
     drive_on(&drive);
+    ask_why(&drive);
     restart(&drive);
+    ask_why(&drive);
     drive_on(&drive);
 }
 
@@ -176,6 +263,9 @@ int main(int count, char **arguments)
         compare_drive();
 
     bool all_seen = report_seen_in_calls();
+
+    printf("drives:\n");
+    all_seen &= report_seen("why of one held again", held_again_seen);
 
     printf("%s\n", all_seen ? "everything listed was seen" : "something listed was never seen");
     printf("drives: %" PRIu64 " drives, %" PRIu64 " calls, %" PRIu64 " differ\n", drives, calls_made(), differences());

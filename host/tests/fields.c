@@ -1,6 +1,8 @@
 /* See fields.h. */
 #include "fields.h"
 
+#include <inttypes.h>
+#include <stdio.h>
 #include <string.h>
 
 #include "bytes.h"
@@ -138,6 +140,14 @@ foldharbor_card card_of_model(const struct card *card)
     };
 }
 
+static struct difference first_that_differs(const struct difference *fields, size_t count)
+{
+    for (; count > 0; count--, fields++)
+        if (fields->of_call != fields->of_model)
+            return *fields;
+    return (struct difference){0};
+}
+
 struct difference compare_outcomes(const foldharbor_outcome *of_call, const struct outcome *of_model)
 {
     const foldharbor_answer *answer = &of_call->answer;
@@ -152,15 +162,52 @@ struct difference compare_outcomes(const foldharbor_outcome *of_call, const stru
         {"answer.held", answer->held, bytes[7]},
     };
 
-    for (size_t i = 0; i < sizeof others / sizeof others[0]; i++)
-        if (others[i].of_call != others[i].of_model)
-            return others[i];
+    struct difference first = first_that_differs(others, sizeof others / sizeof others[0]);
+
+    if (first.name)
+        return first;
     for (const struct field *field = desk_fields; field < desk_fields + DESK_FIELDS; field++) {
         uint32_t by_call = get_field(&of_call->desk, field);
         uint32_t by_model = get_field_of_model(&of_model->desk, field);
 
         if (by_call != by_model)
             return (struct difference){field->name, by_call, by_model};
+    }
+    return (struct difference){0};
+}
+
+static struct difference compare_reason(const foldharbor_reason *of_call, const struct reason *of_model)
+{
+    const foldharbor_record *reading = &of_call->reading;
+    const struct record *record = &of_model->record;
+    const struct difference fields[] = {
+        {"tick", of_call->tick, of_model->tick},
+        {"reading.v", reading->v, record->speed},
+        {"reading.code", reading->code, record->code},
+        {"reading.mode", reading->mode, record->mode},
+        {"reading.lever", reading->lever, record->lever},
+        {"reading.flags", reading->flags, record->flags},
+        {"reading.band", reading->band, record->band},
+        {"reading.sense", reading->sense, record->sense},
+    };
+
+    return first_that_differs(fields, sizeof fields / sizeof fields[0]);
+}
+
+struct difference compare_reasons(const foldharbor_reasons *of_call, const struct reasons *of_model)
+{
+    static char name[sizeof "causes[0].reading.flags"];
+
+    if (of_call->refusal != of_model->refusal)
+        return (struct difference){"refusal", of_call->refusal, of_model->refusal};
+    for (uint32_t i = 0; i < CAUSES; i++) {
+        struct difference first = compare_reason(&of_call->causes[i], &of_model->causes[i]);
+
+        if (!first.name)
+            continue;
+        snprintf(name, sizeof name, "causes[%" PRIu32 "].%s", i, first.name);
+        first.name = name;
+        return first;
     }
     return (struct difference){0};
 }

@@ -1,4 +1,4 @@
-/* The desk's fields by name: from the header's structs to the model's, and outcomes of both held against each other. */
+/* The desk's fields by name: from the header's structs to the model's, and what the calls of both give compared. */
 #ifndef FOLDHARBOR_FIELDS_H
 #define FOLDHARBOR_FIELDS_H
 
@@ -17,7 +17,7 @@ struct field {
     uint32_t least, most;
 };
 
-enum { CARD_FIELDS = 10, DESK_FIELDS = 28 };
+enum { CARD_FIELDS = 10, FIRST_STATE_FIELD = CARD_FIELDS + 1, DESK_FIELDS = 28 };
 
 /* Those of the card come first, the movement wait as the last of them; then n; then the state. */
 extern const struct field desk_fields[DESK_FIELDS];
@@ -37,12 +37,13 @@ foldharbor_card card_of_model(const struct card *card);
 /* The answer's bytes, by the rules. */
 void write_answer(uint8_t *place, const foldharbor_answer *answer);
 
-/* The first field in which two outcomes differ; no name where they do not. */
+/* The first field in which two outcomes, or reasons, differ; no name where they do not. */
 struct difference {
     const char *name;
     uint32_t of_call, of_model;
 };
 
 struct difference compare_outcomes(const foldharbor_outcome *of_call, const struct outcome *of_model);
+struct difference compare_reasons(const foldharbor_reasons *of_call, const struct reasons *of_model);
 
 #endif

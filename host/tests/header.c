@@ -1,6 +1,7 @@
 /*
  * Whether the header's names are what the call goes by. Tries each limit: accepted at it, refused one beyond. Then
- * writes the tour of docs/FORMATS.md by the names, runs it and tells the answer after each of its runs by the names:
+ * writes the tour of docs/FORMATS.md by the names, runs it and tells the answer after each of its runs by the names;
+ * and asks there why, in a journal of the tour, whose records have to be those of the runs:
  *
  *   header EXERCISE ANSWERS   the two files get the tour and all its answers
  *
@@ -108,8 +109,11 @@ static const struct run tour[] = {
 
 enum { TOUR_RUNS = sizeof tour / sizeof tour[0] };
 
+_Static_assert(sizeof causes / sizeof causes[0] == FOLDHARBOR_CAUSES, "every cause has its name");
+
 static uint8_t exercise[FOLDHARBOR_MOST_BYTES + FOLDHARBOR_CARD_BYTES]; /* a card more, to go beyond the limits */
 static uint8_t answers[MOST_ANSWERS + FOLDHARBOR_ANSWER_BYTES];
+static uint8_t journal[FOLDHARBOR_JOURNAL_BYTES];
 static unsigned checks, failures;
 
 static size_t runs_offset(uint32_t cards)
@@ -131,11 +135,8 @@ static void write_card(uint8_t *card)
     write_half(card + FOLDHARBOR_CARD_WAIT, FOLDHARBOR_SHORT_WAIT);
 }
 
-static void write_run(uint8_t *place, const struct run *run)
+static void write_record(uint8_t *record, const struct run *run)
 {
-    uint8_t *record = place + FOLDHARBOR_RUN_RECORD;
-
-    write_half(place + FOLDHARBOR_RUN_TICKS, run->ticks);
     write_half(record + FOLDHARBOR_RECORD_SPEED, run->speed);
     record[FOLDHARBOR_RECORD_CODE] = run->code;
     record[FOLDHARBOR_RECORD_MODE] = run->mode;
@@ -143,6 +144,12 @@ static void write_run(uint8_t *place, const struct run *run)
     record[FOLDHARBOR_RECORD_FLAGS] = run->flags;
     record[FOLDHARBOR_RECORD_BAND] = run->band;
     record[FOLDHARBOR_RECORD_SENSE] = run->sense;
+}
+
+static void write_run(uint8_t *place, const struct run *run)
+{
+    write_half(place + FOLDHARBOR_RUN_TICKS, run->ticks);
+    write_record(place + FOLDHARBOR_RUN_RECORD, run);
 }
 
 /* Writes a good exercise if the counts are good: the same card over and over, and the tour's runs round and round. */
@@ -252,6 +259,56 @@ static void try_runs(void)
     }
 }
 
+/* The run of the tour that has the tick, counted from 1. */
+static const struct run *run_of(uint32_t tick)
+{
+    const struct run *run = tour;
+
+    for (; tick > run->ticks; run++)
+        tick -= run->ticks;
+    return run;
+}
+
+static bool is_of_run(const foldharbor_record *reading, const struct run *run)
+{
+    return reading->v == run->speed && reading->code == run->code && reading->mode == run->mode &&
+           reading->lever == run->lever && reading->flags == run->flags && reading->band == run->band &&
+           reading->sense == run->sense;
+}
+
+static void write_journal(void)
+{
+    uint8_t *record = journal;
+
+    for (size_t i = 0; i < TOUR_RUNS; i++)
+        for (uint32_t ticks = tour[i].ticks; ticks > 0; ticks--, record += FOLDHARBOR_RECORD_BYTES)
+            write_record(record, &tour[i]);
+}
+
+/* After so many ticks of the tour: a reason for each cause that is held, and a refusal where none is. */
+static void ask_why(uint32_t ticks, uint32_t held)
+{
+    foldharbor_desk desk =
+        foldharbor_open(foldharbor_card_at(exercise + FOLDHARBOR_HEADER_BYTES, FOLDHARBOR_CARD_BYTES)).desk;
+
+    desk.n = ticks;
+    desk = foldharbor_step_back(desk, 0, journal, sizeof journal).desk;
+
+    foldharbor_reasons why = foldharbor_why(desk, journal, sizeof journal);
+    bool good = why.refusal == (held == 0 ? FOLDHARBOR_VALVE_CLOSED : 0);
+
+    for (size_t i = 0; i < FOLDHARBOR_CAUSES; i++) {
+        const foldharbor_reason *reason = &why.causes[i];
+
+        good &= (reason->tick > 0) == ((held & causes[i].mask) != 0);
+        good &= reason->tick == 0 || is_of_run(&reason->reading, run_of(reason->tick));
+    }
+    if (good)
+        return;
+    failures++;
+    printf("why after %u ticks gives something else\n", (unsigned)ticks);
+}
+
 static void print_bits(const struct bit *bits, size_t count, uint32_t byte)
 {
     printf(" [");
@@ -300,9 +357,14 @@ int main(int count, char **arguments)
         return 1;
     }
     uint32_t played = 0;
+    write_journal();
     for (size_t i = 0; i < TOUR_RUNS; i++) {
         played += tour[i].ticks;
-        print_answer(played, answers + FOLDHARBOR_ANSWER_BYTES * (played - 1));
+
+        const uint8_t *answer = answers + FOLDHARBOR_ANSWER_BYTES * (played - 1);
+
+        print_answer(played, answer);
+        ask_why(played, answer[FOLDHARBOR_ANSWER_CAUSES]);
     }
     if (!save(arguments[1], exercise, length) || !save(arguments[2], answers, FOLDHARBOR_ANSWER_BYTES * ticks))
         return 2;

@@ -574,7 +574,7 @@ static size_t capacity(size_t journal_length)
     return places < FOLDHARBOR_MOST_TICKS ? places : FOLDHARBOR_MOST_TICKS;
 }
 
-/* What a tick and a step back refuse first. */
+/* What the calls with a journal refuse first. */
 static uint32_t judge_desk(const struct desk *desk, size_t journal_length)
 {
     if (!desk_in_range(desk))
@@ -631,6 +631,50 @@ struct outcome model_desk_restart(struct desk desk)
     if (!desk_in_range(&desk))
         return refused(desk, FOLDHARBOR_BAD_DESK);
     return (struct outcome){.desk = fresh_desk(desk.card)};
+}
+
+static struct reasons refused_reasons(uint32_t refusal)
+{
+    return (struct reasons){.refusal = refusal};
+}
+
+/* The tick at which a holding that lasts to the last tick began; held has the causes after so many ticks. */
+static uint32_t tick_it_began(const uint8_t *held, uint32_t last, uint32_t cause)
+{
+    while (held[last - 1] & cause) /* a fresh desk holds none */
+        last--;
+    return last;
+}
+
+struct reasons model_desk_why(struct desk desk, const uint8_t *journal, size_t journal_length)
+{
+    uint8_t held[FOLDHARBOR_MOST_TICKS + 1], answer[ANSWER_BYTES];
+    struct desk rebuilt = fresh_desk(desk.card);
+    struct reasons reasons = {.refusal = judge_desk(&desk, journal_length)};
+
+    if (reasons.refusal != 0)
+        return reasons;
+    held[0] = 0;
+    while (rebuilt.ticks < desk.ticks) {
+        struct record record = read_record(journal + RECORD_BYTES * rebuilt.ticks);
+
+        if (!record_in_range(&record))
+            return refused_reasons(FOLDHARBOR_BAD_RECORD);
+        model_tick(&rebuilt.card, &rebuilt.state, &record, answer);
+        held[++rebuilt.ticks] = rebuilt.state.causes;
+    }
+    if (memcmp(&desk, &rebuilt, sizeof desk) != 0) /* fields of one size: there is nothing between them */
+        return refused_reasons(FOLDHARBOR_OTHER_DESK);
+    if (desk.state.causes == 0)
+        return refused_reasons(FOLDHARBOR_VALVE_CLOSED);
+    for (uint32_t bit = 0; bit < CAUSES; bit++) {
+        if (!(desk.state.causes & 1u << bit))
+            continue;
+        uint32_t tick = tick_it_began(held, desk.ticks, 1u << bit);
+
+        reasons.causes[bit] = (struct reason){tick, read_record(journal + RECORD_BYTES * (tick - 1))};
+    }
+    return reasons;
 }
 
 /* The exercise file. */

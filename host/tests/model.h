@@ -126,6 +126,19 @@ struct outcome {
     uint32_t refusal; /* 0 if accepted */
 };
 
+enum { CAUSES = 5 };
+
+/* Why a cause is held; zeros where it is not. */
+struct reason {
+    uint32_t tick; /* at which its present holding began, from 1 */
+    struct record record;
+};
+
+struct reasons {
+    uint32_t refusal; /* 0 if accepted */
+    struct reason causes[CAUSES];
+};
+
 struct exercise_counts {
     uint32_t cards, runs, ticks;
 };
@@ -141,11 +154,12 @@ struct state model_fresh_state(void);
 /* Plays one tick: changes the state and writes the 8 answer bytes. Card and record are in range. */
 void model_tick(const struct card *card, struct state *state, const struct record *record, uint8_t *answer);
 
-/* The calls on a desk. Whatever is handed in, they do the same as foldharbor_open, _tick, _step_back and _restart. */
+/* The calls on a desk. They take anything and do the same as foldharbor_open, _tick, _step_back, _restart and _why. */
 struct outcome model_desk_open(struct card card);
 struct outcome model_desk_tick(struct desk desk, struct sample sample, uint8_t *journal, size_t journal_length);
 struct outcome model_desk_step_back(struct desk desk, uint32_t count, const uint8_t *journal, size_t journal_length);
 struct outcome model_desk_restart(struct desk desk);
+struct reasons model_desk_why(struct desk desk, const uint8_t *journal, size_t journal_length);
 
 /* Reads an exercise file: gives the number of the refusal, 0 if accepted, and the counts, zeros if refused. */
 uint32_t model_read_exercise(const uint8_t *exercise, size_t exercise_length, struct exercise_counts *counts);

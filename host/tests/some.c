@@ -320,6 +320,15 @@ foldharbor_desk bent_desk(struct dice *dice, foldharbor_desk desk)
     return desk;
 }
 
+foldharbor_desk changed_desk(struct dice *dice, foldharbor_desk desk)
+{
+    const struct field *field = &desk_fields[dice_between(dice, FIRST_STATE_FIELD, DESK_FIELDS - 1)];
+    uint32_t value = dice_between(dice, field->least, field->most - 1);
+
+    set_field(&desk, field, value < get_field(&desk, field) ? value : value + 1);
+    return desk;
+}
+
 uint32_t some_count(struct dice *dice, uint32_t ticks)
 {
     switch (dice_roll(dice, 6)) {

@@ -39,6 +39,9 @@ foldharbor_desk some_desk(struct dice *dice, uint32_t most_ticks);
 /* The desk with one field out of its range, mostly by one. */
 foldharbor_desk bent_desk(struct dice *dice, foldharbor_desk desk);
 
+/* The desk with one field of its state another number of its range. */
+foldharbor_desk changed_desk(struct dice *dice, foldharbor_desk desk);
+
 /* By how many ticks to step back: as far as there are ticks, and further. */
 uint32_t some_count(struct dice *dice, uint32_t ticks);
 uint32_t some_count_above(struct dice *dice, uint32_t ticks);

@@ -35,8 +35,21 @@ struct fields { /* of a struct */
 #define DESK(member, least, most) FIELD(foldharbor_desk, member, least, most)
 #define COUNTS(member) FIELD(foldharbor_counts, member, 0, 0)
 #define PLACE(member) FIELD(foldharbor_place, member, 0, 0)
+#define REASONS(member) FIELD(foldharbor_reasons, member, 0, 0)
+#define REASON(i)                                                                                                      \
+    REASONS(causes[i].tick), REASONS(causes[i].reading.v), REASONS(causes[i].reading.code),                            \
+        REASONS(causes[i].reading.mode), REASONS(causes[i].reading.lever), REASONS(causes[i].reading.flags),           \
+        REASONS(causes[i].reading.band), REASONS(causes[i].reading.sense)
 
-enum { CARD_FIELDS = 10, SAMPLE_FIELDS = 7, ANSWER_FIELDS = 6, DESK_FIELDS = 18, COUNTS_FIELDS = 4, PLACE_FIELDS = 3 };
+enum {
+    CARD_FIELDS = 10,
+    SAMPLE_FIELDS = 7,
+    ANSWER_FIELDS = 6,
+    DESK_FIELDS = 18,
+    COUNTS_FIELDS = 4,
+    PLACE_FIELDS = 3,
+    REASONS_FIELDS = 1 + 5 * 8
+};
 
 static struct field card_fields[CARD_FIELDS] = {
     CARD(design, 1, 2500),
@@ -84,13 +97,19 @@ static struct field counts_fields[COUNTS_FIELDS] = {COUNTS(refusal), COUNTS(card
 
 static struct field place_fields[PLACE_FIELDS] = {PLACE(refusal), PLACE(start), PLACE(end)};
 
+static struct field reasons_fields[REASONS_FIELDS] = {
+    REASONS(refusal), REASON(0), REASON(1), REASON(2), REASON(3), REASON(4),
+};
+
 static const struct fields of_card = {"card", card_fields, CARD_FIELDS, sizeof(foldharbor_card), 20, 0};
 static const struct fields of_sample = {"sample", sample_fields, SAMPLE_FIELDS, sizeof(foldharbor_sample), 16, 3};
 static const struct fields of_answer = {"answer", answer_fields, ANSWER_FIELDS, sizeof(foldharbor_answer), 8, 0};
 static const struct fields of_desk = {"desk", desk_fields, DESK_FIELDS, sizeof(foldharbor_desk), 48, 20 + 3};
 static const struct fields of_counts = {"counts", counts_fields, COUNTS_FIELDS, sizeof(foldharbor_counts), 8, 1};
 static const struct fields of_place = {"place", place_fields, PLACE_FIELDS, sizeof(foldharbor_place), 6, 1};
-static const struct fields *const structs[] = {&of_card, &of_sample, &of_answer, &of_desk, &of_counts, &of_place};
+static const struct fields of_reasons = {"reasons", reasons_fields, REASONS_FIELDS, sizeof(foldharbor_reasons), 52, 1};
+static const struct fields *const structs[] = {&of_card,   &of_sample, &of_answer, &of_desk,
+                                               &of_counts, &of_place,  &of_reasons};
 
 enum { STRUCTS = sizeof structs / sizeof structs[0], OUTCOME_BYTES = 48 + 8 + 1 + 1 };
 
@@ -191,7 +210,91 @@ static const struct row rows[] = {
 
 enum { ROWS = sizeof rows / sizeof rows[0], UNUSED = 0xA5, SENTINEL = 0xEE };
 
+struct run {
+    uint16_t ticks, v;
+    uint8_t code, mode, lever, flags, band, sense;
+};
+
+/* A drive, and why its valve is open in the end: the refusal, then for NZ1 to NZ5 the tick and its record. */
+struct drive {
+    const char *what;
+    struct run runs[12]; /* up to one of 0 ticks */
+    double reasons[REASONS_FIELDS];
+};
+
+/*
+ * The first three are in VYL, where P is 1,200. NZ5 comes in the 250th tick of standing, and NZ2 in the next, above
+ * 1,230; NZ3 two ticks later, when the three speeds make 3,600; NZ4 by its flag; NZ1 200 ticks after the first moved.
+ */
+static const struct drive drives[] = {
+    {"five causes",
+     {{249, 0, 0, 3, 0, 0x40, 2, 0},
+      {1, 0, 2, 3, 1, 0x46, 2, 1},    /* 250 */
+      {1, 1300, 2, 1, 0, 0x6E, 2, 2}, /* 251 */
+      {1, 900, 4, 4, 1, 0x40, 0, 2},
+      {1, 1400, 1, 3, 2, 0x4A, 1, 1}, /* 253 */
+      {46, 900, 4, 4, 1, 0x40, 0, 2},
+      {1, 800, 1, 1, 1, 0x50, 1, 0}, /* 300 */
+      {150, 900, 4, 4, 1, 0x40, 0, 2},
+      {1, 600, 3, 3, 2, 0x42, 2, 2}, /* 451 */
+      {9, 900, 4, 4, 1, 0x40, 0, 2}},
+     {0,
+      451, 600, 3, 3, 2, 0x42, 2, 2,
+      251, 1300, 2, 1, 0, 0x6E, 2, 2,
+      253, 1400, 1, 3, 2, 0x4A, 1, 1,
+      300, 800, 1, 1, 1, 0x50, 1, 0,
+      250, 0, 2, 3, 1, 0x46, 2, 1}},
+    {"five causes after 20 ticks in POS",
+     {{20, 0, 0, 1, 0, 0x40, 2, 0},
+      {249, 0, 0, 3, 0, 0x40, 2, 0},
+      {1, 0, 1, 3, 0, 0x66, 2, 2},    /* 270 */
+      {1, 1231, 0, 3, 1, 0x68, 1, 2}, /* 271 */
+      {1, 900, 4, 4, 1, 0x40, 0, 2},
+      {1, 1500, 3, 3, 0, 0x66, 2, 1}, /* 273 */
+      {46, 900, 4, 4, 1, 0x40, 0, 2},
+      {1, 700, 0, 3, 1, 0x7A, 1, 2}, /* 320 */
+      {150, 900, 4, 4, 1, 0x40, 0, 2},
+      {1, 500, 0, 1, 2, 0x22, 0, 1}}, /* 471 */
+     {0,
+      471, 500, 0, 1, 2, 0x22, 0, 1,
+      271, 1231, 0, 3, 1, 0x68, 1, 2,
+      273, 1500, 3, 3, 0, 0x66, 2, 1,
+      320, 700, 0, 3, 1, 0x7A, 1, 2,
+      270, 0, 1, 3, 0, 0x66, 2, 2}},
+    {"five causes by other records",
+     {{249, 0, 0, 3, 0, 0x40, 2, 0},
+      {1, 0, 4, 3, 1, 0x42, 2, 2},    /* 250 */
+      {1, 2500, 3, 1, 2, 0x26, 1, 1}, /* 251 */
+      {1, 900, 4, 4, 1, 0x40, 0, 2},
+      {1, 200, 2, 1, 2, 0x2C, 1, 0}, /* 253 */
+      {46, 900, 4, 4, 1, 0x40, 0, 2},
+      {1, 1000, 3, 3, 2, 0x32, 1, 2}, /* 300 */
+      {150, 900, 4, 4, 1, 0x40, 0, 2},
+      {1, 1100, 3, 2, 0, 0x42, 1, 2}, /* 451 */
+      {1, 900, 4, 4, 1, 0x40, 0, 2}},
+     {0,
+      451, 1100, 3, 2, 0, 0x42, 1, 2,
+      251, 2500, 3, 1, 2, 0x26, 1, 1,
+      253, 200, 2, 1, 2, 0x2C, 1, 0,
+      300, 1000, 3, 3, 2, 0x32, 1, 2,
+      250, 0, 4, 3, 1, 0x42, 2, 2}},
+    /* In POS P is the card's 400, and 431 is above 430. A press at 400 lets NZ2 go. */
+    {"NZ2 let go, and again",
+     {{1, 431, 4, 2, 1, 0x40, 2, 1},
+      {1, 400, 4, 2, 1, 0x41, 2, 1},
+      {1, 430, 4, 2, 1, 0x40, 2, 1},
+      {1, 431, 3, 4, 2, 0x60, 1, 0}, /* 4 */
+      {2, 430, 2, 3, 1, 0x40, 0, 1}},
+     {0,
+      0, 0, 0, 0, 0, 0, 0, 0,
+      4, 431, 3, 4, 2, 0x60, 1, 0}},
+    {"nothing held", {{7, 430, 4, 2, 1, 0x40, 2, 1}}, {14}},
+};
+
+enum { DRIVES = sizeof drives / sizeof drives[0] };
+
 static uint8_t journal[FOLDHARBOR_RECORD_BYTES * 32];
+static uint8_t long_journal[FOLDHARBOR_RECORD_BYTES * 500];
 static uint8_t exercise[FOLDHARBOR_MOST_BYTES];
 static unsigned checks, failures;
 static bool quiet; /* while fields are exchanged */
@@ -341,6 +444,44 @@ static void check_calls(void)
     expect_outcome(&out, card_numbers, fresh, nothing, 0, "restart");
 }
 
+/* Lays the drive's journal, and gives the desk that it rebuilds. */
+static foldharbor_desk rebuild(const struct drive *drive)
+{
+    foldharbor_desk desk = foldharbor_open(make_card(card_numbers)).desk;
+    uint8_t *record = long_journal;
+
+    for (const struct run *run = drive->runs; run->ticks > 0; run++) {
+        const uint8_t others[] = {run->code, run->mode, run->lever, run->flags, run->band, run->sense};
+
+        for (uint16_t ticks = run->ticks; ticks > 0; ticks--, record += FOLDHARBOR_RECORD_BYTES, desk.n++) {
+            write_half(record, run->v);
+            memcpy(record + 2, others, sizeof others);
+        }
+    }
+    return foldharbor_step_back(desk, 0, long_journal, sizeof long_journal).desk;
+}
+
+static void check_why(void)
+{
+    foldharbor_desk desk;
+
+    for (size_t i = 0; i < DRIVES; i++) {
+        desk = rebuild(&drives[i]);
+
+        foldharbor_reasons why = foldharbor_why(desk, long_journal, FOLDHARBOR_RECORD_BYTES * desk.n);
+
+        expect_all(&why, &of_reasons, drives[i].reasons, drives[i].what);
+    }
+    /* One fault after the other, so that each comes before those that are there. */
+    desk.state.buttons = 7;
+    expect(foldharbor_why(desk, long_journal, sizeof long_journal).refusal, 23, "why of another desk", "refusal");
+    long_journal[3] = 0;
+    expect(foldharbor_why(desk, long_journal, sizeof long_journal).refusal, 9, "why of a bad record", "refusal");
+    expect(foldharbor_why(desk, long_journal, 8 * desk.n - 1).refusal, 6, "why in a byte too few", "refusal");
+    desk.n = 7201;
+    expect(foldharbor_why(desk, long_journal, sizeof long_journal).refusal, 5, "why of a bad desk", "refusal");
+}
+
 /* A desk with a number in each field that is far out of its range, each another, comes back from each call. */
 static void check_refused(void)
 {
@@ -438,6 +579,7 @@ static void check_all(void)
     check_bytes();
     check_rows();
     check_calls();
+    check_why();
     check_refused();
     check_ranges();
     check_counts();
@@ -493,30 +635,46 @@ static unsigned check_pairs(const struct fields *fields)
  */
 void open_into(void *out, foldharbor_card card) __asm__("foldharbor_open");
 void card_at_into(void *out, const uint8_t *bytes, size_t length) __asm__("foldharbor_card_at");
+void why_into(void *out, foldharbor_desk desk, const uint8_t *journal, size_t length) __asm__("foldharbor_why");
 
 enum { FRONT = 64, ROOM = 256 };
 
 static bool written[ROOM]; /* bytes before, in and behind what is returned */
 
-static void note_written(bool by_open, uint8_t filling)
+static void call_open(void *out)
 {
-    static _Alignas(64) uint8_t room[ROOM];
+    open_into(out, make_card(card_numbers));
+}
+
+static void call_card_at(void *out)
+{
     static const uint8_t bytes[FOLDHARBOR_CARD_BYTES] = {0};
 
+    card_at_into(out, bytes, sizeof bytes);
+}
+
+static void call_why(void *out)
+{
+    foldharbor_desk desk = rebuild(&drives[0]);
+
+    why_into(out, desk, long_journal, sizeof long_journal);
+}
+
+static void note_written(void call(void *out), uint8_t filling)
+{
+    static _Alignas(64) uint8_t room[ROOM];
+
     memset(room, filling, ROOM);
-    if (by_open)
-        open_into(room + FRONT, make_card(card_numbers));
-    else
-        card_at_into(room + FRONT, bytes, sizeof bytes);
+    call(room + FRONT);
     for (size_t i = 0; i < ROOM; i++)
         written[i] |= room[i] != filling;
 }
 
-static void find_written(bool by_open)
+static void find_written(void call(void *out))
 {
     memset(written, 0, sizeof written);
-    note_written(by_open, 0x5A);
-    note_written(by_open, 0xA5);
+    note_written(call, 0x5A);
+    note_written(call, 0xA5);
 }
 
 static void expect_written(size_t start, const struct fields *fields, const char *call)
@@ -535,10 +693,13 @@ static void expect_none_outside(size_t size, const char *call)
 
 static void check_written(void)
 {
-    find_written(false);
+    find_written(call_card_at);
     expect_written(0, &of_card, "card_at");
     expect_none_outside(sizeof(foldharbor_card), "card_at");
-    find_written(true);
+    find_written(call_why);
+    expect_written(0, &of_reasons, "why");
+    expect_none_outside(sizeof(foldharbor_reasons), "why");
+    find_written(call_open);
     expect_written(offsetof(foldharbor_outcome, desk.card), &of_card, "open");
     expect_written(offsetof(foldharbor_outcome, desk), &of_desk, "open");
     expect_written(offsetof(foldharbor_outcome, answer), &of_answer, "open");
@@ -562,8 +723,9 @@ static void print_sizes(void)
     printf("bytes: card %zu, sample %zu, answer %zu, codes %zu, curve %zu, signal %zu, prompt %zu, cyclic %zu, ",
            sizeof(foldharbor_card), sizeof(foldharbor_sample), sizeof(foldharbor_answer), sizeof(foldharbor_codes),
            sizeof(foldharbor_curve), sizeof(foldharbor_signal), sizeof(foldharbor_prompt), sizeof(foldharbor_cyclic));
-    printf("state %zu, desk %zu, outcome %zu, counts %zu, place %zu\n", sizeof(foldharbor_state),
-           sizeof(foldharbor_desk), sizeof(foldharbor_outcome), sizeof(foldharbor_counts), sizeof(foldharbor_place));
+    printf("state %zu, desk %zu, outcome %zu, counts %zu, place %zu, record %zu, reason %zu, reasons %zu\n",
+           sizeof(foldharbor_state), sizeof(foldharbor_desk), sizeof(foldharbor_outcome), sizeof(foldharbor_counts),
+           sizeof(foldharbor_place), sizeof(foldharbor_record), sizeof(foldharbor_reason), sizeof(foldharbor_reasons));
 }
 
 int main(void)

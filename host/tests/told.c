@@ -14,7 +14,7 @@
 #include "foldharbor.h"
 #include "model.h"
 
-enum { CAUSES = 5, LANGUAGES = 2, LONGEST_LINE = 1024 };
+enum { LANGUAGES = 2, LONGEST_LINE = 1024 };
 
 enum { /* places in a record, behind the speed */
     AT_CODE = 2,

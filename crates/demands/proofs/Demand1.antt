@@ -14,15 +14,17 @@ use Rattle.desk.specs.declared.Desk.{Desk}
 use Rattle.desk.specs.Desk.{deskInRange}
 use Rattle.desk.specs.Calls.{openOutcome, tickRefusal, backRefusal, restartOutcome}
 use Rattle.desk.proofs.Calls as Calls
+use Rattle.why.specs.Why.{whyRefusal}
+use Rattle.why.proofs.Calls as Why
 use Rattle.file.specs.Read.{readRefusal, readOutcome}
 use Rattle.exercise.specs.Run.{exerciseRefusal, exerciseOutcome}
 use Rattle.exercise.proofs.Outcome.{run-number, buffer-no}
 use Rattle.demands.specs.Ranges.{zeroDesk, zeroAnswer}
 use Rattle.demands.specs.Demand1.{OneOf, Demand1}
 use Rattle.demands.proofs.Functions.{functions, exported, exported-same, opens-is, ticks-is, steps-back-is, steps-back-reads, restarts-is}
-use Rattle.demands.proofs.Functions.{reads-is, runs-is, hosts-is, returning}
+use Rattle.demands.proofs.Functions.{tells-is, reads-is, runs-is, hosts-is, returning}
 use Rattle.demands.proofs.Exactly.{one-of}
-use Rattle.demands.proofs.Refusals.{open-first, tick-first, back-first, restart-first, read-first, exercise-first}
+use Rattle.demands.proofs.Refusals.{open-first, tick-first, back-first, restart-first, why-first, read-first, exercise-first}
 use Rattle.demands.proofs.Numbers.{tick-number, back-number, read-number, host-refused, host-accepted}
 
 -- ---- by the definitions
@@ -84,6 +86,10 @@ demand1 = record {
       let m = rw e at n in
       let no = restart-no d m in
       rw e (record { number = one-of _ _ (restart-first d) m; desk = no .0; answer = no .1 });
+  why = λ d J x K f n.
+      let e = tells-is d J x K f in
+      let m : whyRefusal d J ≡ 0 → ⊥ = rw (e .0, Why.why-number) at n in
+      rw (e .0, Why.why-no d J m) (one-of _ _ (why-first d J) m, refl, e .1);
   reader = λ file c g f n.
       let e = reads-is file c g f in
       let m : readRefusal file ≡ 0 → ⊥ = rw (e .0, read-number) at n in

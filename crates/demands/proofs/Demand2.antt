@@ -34,6 +34,8 @@ use Rattle.desk.specs.declared.Desk.{Desk}
 use Rattle.desk.specs.Desk.{DeskRanges, deskInRange}
 use Rattle.desk.specs.Calls.{openOutcome, tickRefusal, tickOutcome, tickJournal, backRefusal, backOutcome, restartOutcome}
 use Rattle.desk.proofs.Calls as Calls
+use Rattle.why.proofs.Calls as Why
+use Rattle.why.proofs.Promise.{promised}
 use Rattle.file.specs.File.{cardCount, runCount, cardIn}
 use Rattle.file.specs.Read.{tickCount, drive, readRefusal, readOutcome}
 use Rattle.file.proofs.Runs.{tick-is}
@@ -44,11 +46,11 @@ use Rattle.exercise.proofs.Buffer.{answers-length}
 use Rattle.demands.specs.Ranges.{DeskFits, freshOf}
 use Rattle.demands.specs.Demand2.{RecordOf, Gives, Begins, WrittenAt, Driven, Answered, Demand2}
 use Rattle.demands.proofs.Functions.{functions, exported, exported-same, opens-is, ticks-is, steps-back-is, steps-back-reads, restarts-is}
-use Rattle.demands.proofs.Functions.{reads-is, runs-is, hosts-is}
+use Rattle.demands.proofs.Functions.{tells-is, reads-is, runs-is, hosts-is}
 use Rattle.demands.proofs.Exactly.{exactly}
 use Rattle.demands.proofs.Ranges.{desk-fits}
 use Rattle.demands.proofs.Readings.{speed-first, pressure-first}
-use Rattle.demands.proofs.Refusals.{open-first, tick-first, back-first, restart-first, read-first, exercise-first}
+use Rattle.demands.proofs.Refusals.{open-first, tick-first, back-first, restart-first, why-first, read-first, exercise-first}
 use Rattle.demands.proofs.Numbers.{tick-number, back-number, read-number, host-accepted, host-number}
 
 in-range : (d : Desk) → DeskRanges d → DeskFits d
@@ -172,6 +174,9 @@ demand2 = record {
   restart = λ d o f.
       let e = restarts-is d o f in
       rw e (exactly _ _ refl (restart-first d), restart-yes d);
+  why = λ d J x K f.
+      let e = tells-is d J x K f in
+      rw (e .0) (rw Why.why-number (exactly _ _ refl (why-first d J)), λ a. (e .1, promised d J));
   reader = λ file c g f.
       let e = reads-is file c g f in
       rw (e .0) (

@@ -17,10 +17,13 @@ use Rattle.journal.specs.Journal.{capacity, records}
 use Rattle.desk.specs.declared.Outcome.{Outcome}
 use Rattle.desk.specs.Calls.{openOutcome}
 use Rattle.desk.proofs.Calls as Calls
+use Rattle.why.specs.declared.Reasons.{Reasons}
+use Rattle.why.proofs.Calls.{why-number}
 use Rattle.demands.specs.Reasons.{ExactlyFrom}
 use Rattle.demands.specs.Demand3.{Call, Tick, Back, Restart, Drive, survivors, next, opened}
 use Rattle.demands.specs.Demand3.{Room, Returns, Called, done, then, Same, Fed, LastAnswer, NoneLeft, Demand3}
 use Rattle.demands.proofs.Functions.{functions, exported, exported-same, opens-is, ticks-is, steps-back-is, steps-back-reads, restarts-is}
+use Rattle.demands.proofs.Functions.{tells-is}
 use Rattle.demands.proofs.Exactly.{exactly}
 use Rattle.demands.proofs.Refusals.{sample-first}
 use Rattle.demands.proofs.Replay as Replay
@@ -99,6 +102,8 @@ module _ (card : Card) (L : ℕ) (ok : cardInRange card ≡ true) (s : Drive) (v
     same-desk = Replay.desks-same card L ok s t v w e;
     counted = Replay.n-is card L ok s v;
     from-here = λ cs os ps s′ t′ a b. came a .0 ∙ Replay.from-here card L ok s t v w e cs ∙ sym (came b .0);
+    tell-alike = λ x y K M a b. tells-is _ _ x K a .0 ∙ Replay.told-same card L ok s t v w e ∙ sym (tells-is _ _ y M b .0);
+    tells = λ x K a h. ap (λ (y : Reasons). y .refusal) (tells-is _ _ x K a .0) ∙ why-number _ _ ∙ Replay.why-open card L ok s v h;
     ticks = tick-taken;
     steps-back = back-taken;
     restarts = λ o K r. ap number (returned s Restart o K r .0) ∙ ap number (Replay.restart-is card L ok s v);

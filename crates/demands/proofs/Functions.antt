@@ -17,6 +17,8 @@ use Rattle.record.specs.declared.Sample.{Sample}
 use Rattle.desk.specs.declared.Desk.{Desk}
 use Rattle.desk.specs.declared.Outcome.{Outcome}
 use Rattle.desk.specs.Calls.{openOutcome, tickOutcome, tickJournal, backOutcome, restartOutcome}
+use Rattle.why.specs.declared.Reasons.{Reasons}
+use Rattle.why.specs.Why.{whyReasons}
 use Rattle.file.specs.declared.Counts.{Counts}
 use Rattle.file.specs.declared.Total.{Total}
 use Rattle.file.specs.Read.{readOutcome}
@@ -28,6 +30,8 @@ use Rattle.desk.proofs.Desk.tick.Reads as ticking
 use Rattle.desk.proofs.Desk.step_back as backCall
 use Rattle.desk.proofs.Desk.step_back.Reads as backing
 use Rattle.desk.proofs.Desk.restart.Reads as restarting
+use Rattle.why.proofs.why as whyCall
+use Rattle.why.proofs.why.Reads as telling
 use Rattle.file.proofs.read as readCall
 use Rattle.file.proofs.read.Reads as reading
 use Rattle.exercise.proofs.run as runCall
@@ -38,6 +42,8 @@ use Rattle.foldharbor.proofs.foldharbor_tick.Reads as exportedTicking
 use Rattle.foldharbor_back.proofs.foldharbor_step_back as exportedBackCall
 use Rattle.foldharbor_back.proofs.foldharbor_step_back.Reads as exportedBacking
 use Rattle.foldharbor.proofs.foldharbor_restart.Reads as exportedRestarting
+use Rattle.foldharbor_why.proofs.foldharbor_why as exportedWhyCall
+use Rattle.foldharbor_why.proofs.foldharbor_why.Reads as exportedTelling
 use Rattle.foldharbor_exercise.proofs.foldharbor_read_exercise as exportedReadCall
 use Rattle.foldharbor_exercise.proofs.foldharbor_read_exercise.Reads as exportedReading
 use Rattle.foldharbor_exercise.proofs.foldharbor_run_exercise as hostCall
@@ -64,7 +70,7 @@ record Returned (T : Ended) (Post : Said T) (κs : Lfts (T .signature .lifetimes
   post : Post κs args x (atExit T κs args last)
   leaves : Left (atExit T κs args last)
 
--- `exit .0` is the first parameter at exit, the file; `exit .1 .1 .0` the third, the journal or the buffer
+-- `exit .0` is the first parameter at exit, the file; `exit .1 .0` the second, a journal; `exit .1 .1 .0` the third, the journal or the buffer
 pub functions : Functions
 functions =
     record {
@@ -80,6 +86,9 @@ functions =
       steps-back-asks = λ desk k journal. (κs : Lfts 1) (j : Lent journal) → FromNothing (backing.requires κs (desk, (k, (j .0, tt))) tt);
       restarts = λ desk out. (κs : Lfts 0) × (exit : _) × restarting.Post κs (desk, tt) out exit;
       restarts-asks = λ desk. (κs : Lfts 0) → FromNothing (restarting.requires κs (desk, tt) tt);
+      tells = λ desk journal reasons left.
+          (κs : Lfts 1) × (j : Lent journal) × Returned whyCall.ended telling.Post κs (desk, (j .0, tt)) reasons (λ exit. now (exit .1 .0) ≡ left);
+      tells-asks = λ desk journal. (κs : Lfts 1) (j : Lent journal) → FromNothing (telling.requires κs (desk, (j .0, tt)) tt);
       reads = λ file counts file-left.
           (κs : Lfts 1) × (f : Lent file) × Returned readCall.ended reading.Post κs (f .0, tt) counts (λ exit. now (exit .0) ≡ file-left);
       reads-asks = λ file. (κs : Lfts 1) (f : Lent file) → FromNothing (reading.requires κs (f .0, tt) tt);
@@ -113,6 +122,10 @@ exported =
       steps-back-asks = λ desk k journal. (κs : Lfts 1) (j : Lent journal) → FromNothing (exportedBacking.requires κs (desk, (k, (j .0, tt))) tt);
       restarts = λ desk out. (κs : Lfts 0) × (exit : _) × exportedRestarting.Post κs (desk, tt) out exit;
       restarts-asks = λ desk. (κs : Lfts 0) → FromNothing (exportedRestarting.requires κs (desk, tt) tt);
+      tells = λ desk journal reasons left.
+          (κs : Lfts 1) × (j : Lent journal)
+          × Returned exportedWhyCall.ended exportedTelling.Post κs (desk, (j .0, tt)) reasons (λ exit. now (exit .1 .0) ≡ left);
+      tells-asks = λ desk journal. (κs : Lfts 1) (j : Lent journal) → FromNothing (exportedTelling.requires κs (desk, (j .0, tt)) tt);
       reads = λ file counts file-left.
           (κs : Lfts 1) × (f : Lent file)
           × Returned exportedReadCall.ended exportedReading.Post κs (f .0, tt) counts (λ exit. now (exit .0) ≡ file-left);
@@ -141,6 +154,11 @@ same-steps-back desk k journal out left = refl
 same-restarts : (desk : Desk) (out : Outcome) → exported .restarts desk out ≡ functions .restarts desk out
 unfolding functions exported
 same-restarts desk out = refl
+
+same-tells : (desk : Desk) (journal : List ℕ) (reasons : Reasons) (left : List ℕ)
+    → exported .tells desk journal reasons left ≡ functions .tells desk journal reasons left
+unfolding functions exported
+same-tells desk journal reasons left = refl
 
 same-reads : (file : List ℕ) (counts : Counts) (file-left : List ℕ) → exported .reads file counts file-left ≡ functions .reads file counts file-left
 unfolding functions exported
@@ -172,6 +190,11 @@ module _ (d : Desk) (k : ℕ) (journal : List ℕ) (o : Outcome) (left : List �
 pub restarts-is : (d : Desk) (o : Outcome) → functions .restarts d o → o ≡ restartOutcome d
 unfolding functions
 restarts-is d o f = f .2
+
+pub tells-is : (d : Desk) (journal : List ℕ) (x : Reasons) (left : List ℕ) → functions .tells d journal x left
+    → (x ≡ whyReasons d journal) × (left ≡ journal)
+unfolding functions
+tells-is d journal x left f = (f .2 .post ∙ ap (whyReasons d) (f .1 .1), sym (f .2 .leaves) ∙ f .1 .1)
 
 pub reads-is : (file : List ℕ) (c : Counts) (file-left : List ℕ) → functions .reads file c file-left → (c ≡ readOutcome file) × (file-left ≡ file)
 unfolding functions
@@ -217,6 +240,7 @@ returning = record {
       );
   step-back = λ d k J. (λ κs j. from-nothing, backOutcome d k J, J, (([], tt), lent J, record { last = (tt, (tt, (tt, tt))); post = refl; leaves = refl }));
   restart = λ d. (λ κs. from-nothing, restartOutcome d, (tt, (d, tt), refl));
+  why = λ d J. (λ κs j. from-nothing, whyReasons d J, J, (([], tt), lent J, record { last = (tt, (tt, tt)); post = refl; leaves = refl }));
   reader = λ file. (λ κs f. from-nothing, readOutcome file, file, (([], tt), lent file, record { last = (tt, tt); post = refl; leaves = refl }));
   exercise = λ file card B.
       let C = exerciseBuffer file card B in (

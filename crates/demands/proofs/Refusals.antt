@@ -4,7 +4,7 @@ use Prim.Native.Nat.{ℕ, zero, suc, _-_, _*_, _≤_, _<_}
 use native.Mathlib.Nat.{le-of-suc-le-suc, eq-or-lt-of-le}
 use native.Mathlib.Omega.{arith}
 use mathlib.Core.Path.{_≡_, refl, sym, _∙_}
-use mathlib.Core.Bool.{Bool, true, false, not, _&&_, _||_, cond, false≢true}
+use mathlib.Core.Bool.{Bool, true, false, not, _&&_, _||_, cond, decide, decide-iff, false≢true}
 use mathlib.Core.Logic.{inl, inr, ⊎-elim, ⊎-map, _↔_}
 use mathlib.Core.List.{List}
 use lib.Dec.{leb, ltb, eqb}
@@ -25,6 +25,8 @@ use Rattle.desk.specs.declared.Desk.{Desk}
 use Rattle.desk.specs.declared.Outcome.{Outcome}
 use Rattle.desk.specs.Desk.{deskInRange, noDesk}
 use Rattle.desk.specs.Calls.{refused, begun, openOutcome, deskRefusal, tickRefusal, tickRefusalOf, backRefusal, restartOutcome}
+use Rattle.same.proofs.Desks.{sameDesk?}
+use Rattle.why.specs.Why.{rebuilt, whyRefusal}
 use Rattle.file.specs.File.{headerGood, cardCount, runCount, cardIn, runTicks, runRecord}
 use Rattle.file.specs.Runs.{ticksTo, runFault, runsRefusal}
 use Rattle.file.specs.Read.{tickCount, headRefusal, readRefusal}
@@ -102,6 +104,14 @@ back-first d k J =
     first-then _ _ (reason 5 _ (reason 6 _ none)) (reason 8 _ (reason 9 _ none)) refl (desk-first d (length J))
     (if-so (ltb (d .n) k) 8 _ _ (ltb-iff _ _)
     (if-so _ 9 0 none (some-iff (λ i. recordInRange (records J i)) (λ i. RecordFits (recordAt J (8 * i))) (λ i. record-fits _) (d .n - k)) no-reason))
+
+pub why-first : (d : Desk) (J : List ℕ) → First (whyRefusal d J) (Reasons.whyReasons d J)
+unfolding whyRefusal records
+why-first d J =
+    first-then _ _ (reason 5 _ (reason 6 _ none)) (reason 9 _ (reason 23 _ (reason 14 _ none))) refl (desk-first d (length J))
+    (if-so _ 9 _ _ (some-iff (λ i. recordInRange (records J i)) (λ i. RecordFits (recordAt J (8 * i))) (λ i. record-fits _) (d .n))
+    (if-not (decide (sameDesk? d (rebuilt d J))) 23 _ _ (decide-iff (sameDesk? d (rebuilt d J)))
+    (if-so (eqb (d .state .causes) 0) 14 0 none (eqb-true _ _, eq-eqb _ _) no-reason)))
 
 -- ---- the runs in turn
 module _ (file : List ℕ) where

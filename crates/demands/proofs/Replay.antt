@@ -32,6 +32,9 @@ use Rattle.desk.specs.Calls.{refused, accepted, openOutcome, tickRefusal, tickO
 use Rattle.numbers.proofs.All.{each-all}
 use Rattle.journal.proofs.Room.{room}
 use Rattle.desk.proofs.Calls as Calls
+use Rattle.why.specs.Why.{rebuilt, whyRefusal, whyReasons}
+use Rattle.why.proofs.Calls as Why
+use Rattle.why.proofs.Alike.{told-alike}
 use Rattle.demands.specs.Demand3.{Call, Tick, Back, Restart, Drive, survivors, next, opened}
 
 -- ---- what the definitions give
@@ -172,6 +175,13 @@ module _ (card : Card) (L : ℕ) (ok : cardInRange card ≡ true) (s : Drive) (v
       let n = n-is in
       Calls.taken-back _ _ _ (record { desk = desk-fit; few = omega arith; good = each-all _ _ (λ i l. good i (omega arith)) })
 
+  pub why-open : (s .desk .state .causes ≡ 0 → ⊥) → whyRefusal (s .desk) (s .journal) ≡ 0
+  why-open h =
+      let n = n-is in
+      let is : s .desk ≡ rebuilt (s .desk) (s .journal) =
+      v .is ∙ ap (λ (d : Desk). desk-at (d .card) (records (s .journal)) (d .n)) (sym (v .is)) in
+      Why.taken-why _ _ (record { fit = desk-fit; good = each-all _ _ (λ i l. good i (omega arith)); same = is; held = h })
+
   back-closed : (k : ℕ) → length (s .kept) < k → backOutcome (s .desk) k (s .journal) ≡ refused (s .desk) backTooFar
   back-closed k h =
       let n = n-is in
@@ -300,6 +310,12 @@ module _ (card : Card) (L : ℕ) (ok : cardInRange card ≡ true) (s t : Drive) 
       v .is ∙ after-desk card (records (s .journal)) (records (t .journal)) (length (s .kept)) same-records
       ∙ ap (λ (l : List Sample). desk-at card (records (t .journal)) (length l)) (sym e)
       ∙ sym (w .is)
+
+  pub told-same : whyReasons (s .desk) (s .journal) ≡ whyReasons (t .desk) (t .journal)
+  told-same =
+      let n = n-is card L ok s v in
+      told-alike (s .desk) (s .journal) (t .journal) (v .long ∙ sym (w .long)) (λ i l. same-records i (omega arith))
+      ∙ ap (λ (d : Desk). whyReasons d (t .journal)) desks-same
 
   outcomes-same : (c : Call) → outcome s c ≡ outcome t c
   unfolding outcome

@@ -9,10 +9,11 @@ use Rattle.card.specs.declared.Card.{Card}
 use Rattle.record.specs.declared.Sample.{Sample}
 use Rattle.desk.specs.declared.Desk.{Desk}
 use Rattle.desk.specs.declared.Outcome.{Outcome}
+use Rattle.why.specs.declared.Reasons.{Reasons}
 use Rattle.file.specs.declared.Counts.{Counts}
 use Rattle.file.specs.declared.Total.{Total}
 use Rattle.demands.specs.Functions.{Functions}
-use Rattle.demands.specs.Ranges.{zeroDesk, zeroAnswer}
+use Rattle.demands.specs.Ranges.{zeroDesk, zeroAnswer, zeroReasons}
 
 -- whatever is handed over, the call may be made, and something is returned that its contract allows. `left` is the journal or the buffer afterwards,
 -- `file-left` the file
@@ -23,6 +24,8 @@ pub record Returning (F : Functions) : Type 2 where
   pub step-back : (desk : Desk) (k : ℕ) (journal : List ℕ) → F .steps-back-asks desk k journal
       × (out : Outcome) × (left : List ℕ) × F .steps-back desk k journal out left
   pub restart : (desk : Desk) → F .restarts-asks desk × (out : Outcome) × F .restarts desk out
+  pub why : (desk : Desk) (journal : List ℕ) → F .tells-asks desk journal
+      × (reasons : Reasons) × (left : List ℕ) × F .tells desk journal reasons left
   pub reader : (file : List ℕ) → F .reads-asks file × (counts : Counts) × (file-left : List ℕ) × F .reads file counts file-left
   pub exercise : (file : List ℕ) (card : ℕ) (buffer : List ℕ) → F .runs-asks file card buffer
       × (total : Total) × (file-left left : List ℕ) × F .runs file card buffer total file-left left
@@ -49,6 +52,10 @@ pub record Demand1 (F : Functions) : Type 2 where
       (out .refusal ≡ 0 → ⊥) → Refused (5 ∷ 6 ∷ 8 ∷ 9 ∷ []) desk out × (left ≡ journal)
   pub restart : (desk : Desk) (out : Outcome) → F .restarts desk out →
       (out .refusal ≡ 0 → ⊥) → Refused (5 ∷ []) desk out
+  -- why the valve is open: zeros for every cause
+  pub why : (desk : Desk) (journal : List ℕ) (reasons : Reasons) (left : List ℕ) → F .tells desk journal reasons left →
+      (reasons .refusal ≡ 0 → ⊥) → OneOf (5 ∷ 6 ∷ 9 ∷ 23 ∷ 14 ∷ []) (reasons .refusal)
+      × (reasons ≡ zeroReasons (reasons .refusal)) × (left ≡ journal)
   -- the reader and the exercise: counts of zeros
   pub reader : (file : List ℕ) (counts : Counts) (file-left : List ℕ) → F .reads file counts file-left →
       (counts .refusal ≡ 0 → ⊥) → OneOf (10 ∷ 4 ∷ 11 ∷ 9 ∷ []) (counts .refusal)

@@ -10,6 +10,7 @@ use Rattle.card.specs.declared.Card.{Card}
 use Rattle.record.specs.declared.Sample.{Sample}
 use Rattle.desk.specs.declared.Desk.{Desk}
 use Rattle.desk.specs.declared.Outcome.{Outcome}
+use Rattle.why.specs.declared.Reasons.{Reasons}
 use Rattle.demands.specs.Functions.{Functions}
 use Rattle.demands.specs.Ranges.{zeroAnswer}
 use Rattle.demands.specs.Reasons.{BadSpeed, BadPressure, SwitchesFit}
@@ -67,6 +68,11 @@ module _ (F : Functions) where
     pub counted : drive .desk .n ≡ length (drive .kept)
     pub from-here : (calls : List Call) (outs others : List Outcome) (end other : Drive) →
         Called drive calls outs end → Called fresh calls others other → outs ≡ others
+    -- asked why, both tell the same, and are refused only where the valve is closed
+    pub tell-alike : (reasons others : Reasons) (left beside : List ℕ) → F .tells (drive .desk) (drive .journal) reasons left →
+        F .tells (fresh .desk) (fresh .journal) others beside → reasons ≡ others
+    pub tells : (reasons : Reasons) (left : List ℕ) → F .tells (drive .desk) (drive .journal) reasons left →
+        (drive .desk .state .causes ≡ 0 → ⊥) → reasons .refusal ≡ 0
     -- what is accepted; and what is refused never happened
     pub ticks : (sample : Sample) (out : Outcome) (left : List ℕ) → Returns drive (Tick sample) out left → Room drive sample → out .refusal ≡ 0
     pub steps-back : (k : ℕ) (out : Outcome) (left : List ℕ) → Returns drive (Back k) out left → k ≤ length (drive .kept) → out .refusal ≡ 0

@@ -1,4 +1,4 @@
--- The calls of the paper as relations: that a call may be made (`..-asks`: what it asks of its caller is there), what it may return, and what every lent
+-- The calls of the paper, and of request 1, as relations: that a call may be made (`..-asks`: what it asks of its caller is there), what it may return, and what every lent
 -- slice may hold afterwards. The demands are said of any such relations. proofs/Functions.antt has those of our functions and those of
 -- the calls that the archive exports, read off their contracts.
 use Prim.Native.Nat.{ℕ}
@@ -7,6 +7,7 @@ use Rattle.card.specs.declared.Card.{Card}
 use Rattle.record.specs.declared.Sample.{Sample}
 use Rattle.desk.specs.declared.Desk.{Desk}
 use Rattle.desk.specs.declared.Outcome.{Outcome}
+use Rattle.why.specs.declared.Reasons.{Reasons}
 use Rattle.file.specs.declared.Counts.{Counts}
 use Rattle.file.specs.declared.Total.{Total}
 
@@ -22,6 +23,9 @@ pub record Functions : Type 3 where
   -- it is lent no journal
   pub restarts : Desk → Outcome → Type 0
   pub restarts-asks : Desk → Type 2
+  -- why the valve is open: the journal as it is lent, the reasons, the journal afterwards
+  pub tells : Desk → List ℕ → Reasons → List ℕ → Type 0
+  pub tells-asks : Desk → List ℕ → Type 2
   -- the reader of an exercise file: the file as it is lent, what it counts, the file afterwards
   pub reads : List ℕ → Counts → List ℕ → Type 0
   pub reads-asks : List ℕ → Type 2

@@ -1,4 +1,4 @@
--- The ranges of card, record and desk, a desk with nothing in it and an answer of zeros, as the paper writes them.
+-- The ranges of card, record and desk, a desk with nothing in it, an answer of zeros and reasons of zeros, as the paper writes them.
 -- In numbers and not by the names that the rules use, so that this page is held against the paper and the rules against this page.
 use Prim.Native.Nat.{ℕ, _≤_}
 use mathlib.Core.Path.{_≡_}
@@ -7,6 +7,8 @@ use Rattle.card.specs.declared.Card.{Card}
 use Rattle.record.specs.declared.Record.{Record}
 use Rattle.rules.specs.declared.Answer.{Answer}
 use Rattle.desk.specs.declared.Desk.{Desk}
+use Rattle.why.specs.declared.Reason.{Reason}
+use Rattle.why.specs.declared.Reasons.{Reasons}
 
 abbrev pub Between : ℕ → ℕ → ℕ → Type 0
 Between least x most = (least ≤ x) × (x ≤ most)
@@ -101,3 +103,10 @@ zeroDesk = bareDesk zeroCard 0
 
 abbrev pub zeroAnswer : Answer
 zeroAnswer = record { permitted = 0; target = 0; marks = 0; causes = 0; lowest = 0; held = 0 }
+
+abbrev pub zeroReason : Reason
+zeroReason = record { tick = 0; reading = record { v = 0; code = 0; mode = 0; lever = 0; flags = 0; band = 0; sense = 0 } }
+
+-- a number of refusal and nothing else
+abbrev pub zeroReasons : ℕ → Reasons
+zeroReasons number = record { refusal = number; nz1 = zeroReason; nz2 = zeroReason; nz3 = zeroReason; nz4 = zeroReason; nz5 = zeroReason }

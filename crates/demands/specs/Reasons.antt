@@ -10,6 +10,7 @@ use Rattle.layout.specs.Layout.{u16At}
 use Rattle.card.specs.declared.Card.{Card}
 use Rattle.record.specs.declared.Sample.{Sample}
 use Rattle.record.specs.Record.{recordAt}
+use Rattle.rules.specs.After.{after}
 use Rattle.desk.specs.declared.Desk.{Desk}
 use Rattle.file.specs.File.{cardCount, runCount, cardIn, runTicks, runRecord}
 use Rattle.file.specs.Runs.{ticksTo}
@@ -95,6 +96,16 @@ backReasons desk k journal =
 
 abbrev pub restartReasons : Desk → Reasons
 restartReasons desk = reason 5 (DeskFits desk → ⊥) none
+
+-- 9: of any of the n records. 23: the desk is not the one that they rebuild. 14: no cause is held
+abbrev pub whyReasons : Desk → List ℕ → Reasons
+whyReasons desk journal =
+    reason 5 (DeskFits desk → ⊥)
+    (reason 6 (length journal < 8 * desk .n)
+    (reason 9 ((i : ℕ) × (i < desk .n) × (RecordFits (recordAt journal (8 * i)) → ⊥))
+    (reason 23
+    (desk ≡ record { card = desk .card; n = desk .n; state = after (desk .card) (λ i. recordAt journal (8 * i)) (desk .n) .state } → ⊥)
+    (reason 14 (desk .state .causes ≡ 0) none))))
 
 -- ---- the exercise file
 -- not shorter than its header, counts in range, and offsets, total and real length as the counts give

@@ -12,6 +12,7 @@ use libc::STDERR_FILENO;
 use libc::STDIN_FILENO;
 use libc::STDOUT_FILENO;
 use line::LINE_MOST;
+use line::REASONS_LINE_MOST;
 use record::RECORD_WIDTH;
 use script::CALL_MOST;
 use script::HEADER_WIDTH;
@@ -23,6 +24,8 @@ const JOURNAL_MOST: usize = 65535;
 enum Next {
     // a call on this desk
     Call(Desk),
+    // a call on the desk as it was
+    SameDesk,
     // nothing: the script has ended
     End,
     // nothing: a read or a write failed, which has been told
@@ -65,6 +68,14 @@ fn print(reply: Reply) -> Next {
             }
             let desk = outcome.desk;
             Next::Call(desk)
+        }
+        Reply::Why(reasons) => {
+            let mut line = [0u8; REASONS_LINE_MOST];
+            let n = line::line_of_reasons(reasons, &mut line);
+            if !io::write_all(STDOUT_FILENO, &line[..n]) {
+                return write_failed();
+            }
+            Next::SameDesk
         }
         Reply::BadScript => {
             if !io::write_all(STDOUT_FILENO, b"bad script\n") {
@@ -116,6 +127,7 @@ fn play_all(first: Desk, journal: &mut [u8]) -> Played {
     while turns > 0 {
         match play_next(desk, journal) {
             Next::Call(next) => desk = next,
+            Next::SameDesk => {}
             Next::End => return Played::Ticks(desk.n),
             Next::Failed => return Played::Failed,
         }

@@ -1,4 +1,4 @@
-// The archive: the calls that a host program links, but for the step back and exercises. host/foldharbor.h declares them, and their structs, for C and C++.
+// The archive: the calls that a host program links, but for the step back, exercises and why. host/foldharbor.h declares them, and their structs, for C and C++.
 ghost use mathlib.Core.Path.{_≡_};
 ghost use lib.ListN.{length};
 ghost use Rattle.card.specs.Card.{cardWidth, putCard};
@@ -17,7 +17,7 @@ use rules::Answer;
 use texts::Place;
 
 // Of this archive and of the header that goes with it.
-const VERSION: u32 = 10000;
+const VERSION: u32 = 10100;
 
 // How many of `width` bytes are put where there are `room`: all or none.
 fn bytes_put(width: usize, room: usize) -> usize

@@ -1,16 +1,21 @@
-// The line that is printed of an outcome.
+// The lines that are printed of an outcome and of why the valve is open.
 ghost use mathlib.Core.Path.{_≡_};
 ghost use Prim.Native.Nat.{_+_, _*_, _≤_, _<_};
 ghost use lib.ListN.{length};
 ghost use Rattle.layout.specs.Layout.{written};
-ghost use Rattle.line.specs.Line.{digitAt, numberMost, number, four, lineOf};
+ghost use Rattle.line.specs.Line.{digitAt, digitsMost, decimal, numberMost, spaced, reasonMost, reasonNumbers, lineOf, lineOfReasons};
 use desk::Outcome;
+use why::Reason;
+use why::Reasons;
 
-// The most bytes of a number: five digits and what stands behind them.
+// The most bytes of a number with the space before it, and of the first with the line end: five digits and one.
 const NUMBER_MOST: usize = 6;
 
-// The most bytes of a line.
+// The most bytes of an outcome's line.
 pub const LINE_MOST: usize = 8 * NUMBER_MOST;
+
+// The most bytes of the line of reasons: the refusal, and nine numbers of each cause.
+pub const REASONS_LINE_MOST: usize = (1 + 5 * 9) * NUMBER_MOST;
 
 // In ASCII.
 const SPACE: u8 = 32;
@@ -33,31 +38,34 @@ fn put_digit(out: &mut [u8], at: usize, x: u16, weight: u16) -> usize
     at + 1
 }
 
-// Writes x in decimal and `end` behind it; answers the place after it.
-fn put_number(out: &mut [u8], at: usize, x: u16, end: u8) -> usize
-    requires { ⌜ at + numberMost ≤ length (now out) ⌝ }
-    ensures { λ r. ⌜ (r ≡ at + length (number x end)) × (r ≤ at + numberMost) ⌝ }
-    ensures { λ r. ⌜ now (out .exit) ≡ written (now (out .entry)) at (number x end) ⌝ }
+// Writes x in decimal; answers the place after it.
+fn put_decimal(out: &mut [u8], at: usize, x: u16) -> usize
+    requires { ⌜ at + digitsMost ≤ length (now out) ⌝ }
+    ensures { λ r. ⌜ (r ≡ at + length (decimal x)) × (r ≤ at + digitsMost) ⌝ }
+    ensures { λ r. ⌜ now (out .exit) ≡ written (now (out .entry)) at (decimal x) ⌝ }
 {
     let a = put_digit(out, at, x, 10000);
     let b = put_digit(out, a, x, 1000);
     let c = put_digit(out, b, x, 100);
     let d = put_digit(out, c, x, 10);
     out[d] = DIGIT_ZERO + (x % 10) as u8;
-    out[d + 1] = end;
-    d + 2
+    d + 1
 }
 
-// Writes four numbers, spaces between them and `end` behind the last; answers the place after it.
-fn put_four(out: &mut [u8], at: usize, a: u16, b: u16, c: u16, d: u16, end: u8) -> usize
-    requires { ⌜ at + 4 * numberMost ≤ length (now out) ⌝ }
-    ensures { λ r. ⌜ (r ≡ at + length (four a b c d end)) × (r ≤ at + 4 * numberMost) ⌝ }
-    ensures { λ r. ⌜ now (out .exit) ≡ written (now (out .entry)) at (four a b c d end) ⌝ }
+// Writes numbers in decimal, a space before each; answers the place after them.
+fn put_spaced(out: &mut [u8], from: usize, numbers: &[u16]) -> usize
+    requires { ⌜ from + numberMost * length (now numbers) ≤ length (now out) ⌝ }
+    ensures { λ r. ⌜ (r ≡ from + length (spaced (now (numbers .entry)))) × (r ≤ from + numberMost * length (now (numbers .entry))) ⌝ }
+    ensures { λ r. ⌜ now (out .exit) ≡ written (now (out .entry)) from (spaced (now (numbers .entry))) ⌝ }
 {
-    let second = put_number(out, at, a, SPACE);
-    let third = put_number(out, second, b, SPACE);
-    let fourth = put_number(out, third, c, SPACE);
-    put_number(out, fourth, d, end)
+    let mut at = from;
+    let mut i = 0;
+    while i < numbers.len() {
+        out[at] = SPACE;
+        at = put_decimal(out, at + 1, numbers[i]);
+        i += 1;
+    }
+    at
 }
 
 // Writes the line of an outcome; answers its length.
@@ -66,22 +74,62 @@ pub fn line_of(outcome: Outcome, out: &mut [u8; LINE_MOST]) -> usize
     ensures text { λ r. ⌜ now (out .exit) ≡ written (now (out .entry)) 0 (lineOf outcome) ⌝ }
 {
     let answer = outcome.answer;
-    let half = put_four(
+    let first = put_decimal(out, 0, outcome.refusal as u16);
+    let end = put_spaced(
         out,
-        0,
-        outcome.refusal as u16,
-        outcome.desk.n,
-        answer.permitted,
-        answer.target,
-        SPACE,
+        first,
+        &[
+            outcome.desk.n,
+            answer.permitted,
+            answer.target,
+            answer.marks as u16,
+            answer.causes as u16,
+            answer.lowest as u16,
+            answer.held as u16,
+        ],
     );
-    put_four(
+    out[end] = LINE_END;
+    end + 1
+}
+
+// Writes why a cause is held, by its number; nothing where it is not. Answers the place after it.
+fn put_reason(out: &mut [u8], at: usize, cause: u16, reason: Reason) -> usize
+    requires { ⌜ at + reasonMost ≤ length (now out) ⌝ }
+    ensures { λ r. ⌜ (r ≡ at + length (spaced (reasonNumbers cause reason))) × (r ≤ at + reasonMost) ⌝ }
+    ensures { λ r. ⌜ now (out .exit) ≡ written (now (out .entry)) at (spaced (reasonNumbers cause reason)) ⌝ }
+{
+    if reason.tick == 0 {
+        return at;
+    }
+    let r = reason.reading;
+    put_spaced(
         out,
-        half,
-        answer.marks as u16,
-        answer.causes as u16,
-        answer.lowest as u16,
-        answer.held as u16,
-        LINE_END,
+        at,
+        &[
+            cause,
+            reason.tick,
+            r.v,
+            r.code as u16,
+            r.mode as u16,
+            r.lever as u16,
+            r.flags as u16,
+            r.band as u16,
+            r.sense as u16,
+        ],
     )
+}
+
+// Writes the line of reasons; answers its length.
+pub fn line_of_reasons(reasons: Reasons, out: &mut [u8; REASONS_LINE_MOST]) -> usize
+    ensures length { λ r. ⌜ (r ≡ length (lineOfReasons reasons)) × (r ≤ length (now (out .exit))) ⌝ }
+    ensures text { λ r. ⌜ now (out .exit) ≡ written (now (out .entry)) 0 (lineOfReasons reasons) ⌝ }
+{
+    let first = put_decimal(out, 0, reasons.refusal as u16);
+    let second = put_reason(out, first, 1, reasons.nz1);
+    let third = put_reason(out, second, 2, reasons.nz2);
+    let fourth = put_reason(out, third, 3, reasons.nz3);
+    let fifth = put_reason(out, fourth, 4, reasons.nz4);
+    let end = put_reason(out, fifth, 5, reasons.nz5);
+    out[end] = LINE_END;
+    end + 1
 }

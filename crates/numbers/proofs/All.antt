@@ -1,4 +1,4 @@
--- A test that holds at every number below a bound holds at each and below every lower one, and the other way round.
+-- A test that holds at every number below a bound holds at each and below every lower one, and the other way round; and it goes by those numbers alone.
 -- By induction on the bound.
 use Prim.Native.Nat.{ℕ, zero, suc, _+_, _≤_, _<_}
 use native.Mathlib.Nat.{le-of-suc-le-suc, eq-or-lt-of-le}
@@ -46,3 +46,8 @@ module _ (test : ℕ → Bool) where
   unfolding allBelow
   each-all zero h = refl
   each-all (suc m) h = and-iff _ _ .1 (each-all m (λ i l. h i (omega arith)), h m (omega arith))
+
+pub all-same : (test other : ℕ → Bool) (m : ℕ) → ((i : ℕ) → i < m → test i ≡ other i) → allBelow test m ≡ allBelow other m
+unfolding allBelow
+all-same test other zero h = refl
+all-same test other (suc m) h = rw (all-same test other m (λ i l. h i (omega arith)), h m (omega arith))

@@ -23,15 +23,31 @@ eqb-self : (x : ℕ) → eqb x x ≡ true
 eqb-self x = eq-eqb x x refl
 
 abbrev card : Card → Card
-card x = record { design = x .design; set = x .set; highest = x .highest; pos = x .pos; zav = x .zav; tolerance = x .tolerance; stop = x .stop; deceleration = x .deceleration; cycle = x .cycle; wait = x .wait }
+card x =
+    record {
+      design = x .design;
+      set = x .set;
+      highest = x .highest;
+      pos = x .pos;
+      zav = x .zav;
+      tolerance = x .tolerance;
+      stop = x .stop;
+      deceleration = x .deceleration;
+      cycle = x .cycle;
+      wait = x .wait;
+    }
 
-pub same-card : (a b : Card) → ((eqb (a .design) (b .design) && eqb (a .set) (b .set) && eqb (a .highest) (b .highest) && eqb (a .pos) (b .pos) && eqb (a .zav) (b .zav) && eqb (a .tolerance) (b .tolerance) && eqb (a .stop) (b .stop) && eqb (a .deceleration) (b .deceleration) && eqb (a .cycle) (b .cycle) && eqb (a .wait) (b .wait)) ≡ true) ↔ (a ≡ b)
+pub same-card : (a b : Card)
+    → ((eqb (a .design) (b .design) && eqb (a .set) (b .set) && eqb (a .highest) (b .highest) && eqb (a .pos) (b .pos) && eqb (a .zav) (b .zav)
+    && eqb (a .tolerance) (b .tolerance) && eqb (a .stop) (b .stop) && eqb (a .deceleration) (b .deceleration) && eqb (a .cycle) (b .cycle)
+    && eqb (a .wait) (b .wait)) ≡ true) ↔ (a ≡ b)
 same-card a b = (λ t. let e : card a ≡ card b = search (simp (and-iff, eqb-iff) at t) in e, λ e. rw e (simp eqb-self))
 
 abbrev codes : Codes → Codes
 codes x = record { last = x .last; interrupted = x .interrupted; gap = x .gap; raise = x .raise }
 
-pub same-codes : (a b : Codes) → ((eqb (a .last) (b .last) && eqb (a .interrupted) (b .interrupted) && eqb (a .gap) (b .gap) && eqb (a .raise) (b .raise)) ≡ true) ↔ (a ≡ b)
+pub same-codes : (a b : Codes)
+    → ((eqb (a .last) (b .last) && eqb (a .interrupted) (b .interrupted) && eqb (a .gap) (b .gap) && eqb (a .raise) (b .raise)) ≡ true) ↔ (a ≡ b)
 same-codes a b = (λ t. let e : codes a ≡ codes b = search (simp (and-iff, eqb-iff) at t) in e, λ e. rw e (simp eqb-self))
 
 abbrev curve : Curve → Curve
@@ -85,9 +101,9 @@ pub same-state : (a b : State) (signal prompt cyclic : Bool) → (signal ≡ tru
 same-state a b signal prompt cyclic h k l = (
   λ t.
       let f = simp (and-iff, eqb-iff) at t in
+      let g = f .0 .0 .0 in
       let e : state a ≡ state b =
-      search (f .0 .0 .0 .0 .0 .0 .0, f .0 .0 .0 .0 .0 .0 .1, h .0 (f .0 .0 .0 .0 .0 .1), k .0 (f .0 .0 .0 .0 .1), l .0 (f .0 .0 .0 .1), f .0 .0 .1, f .0 .1, f .1)
-      in e,
+      search (g .0 .0 .0 .0, g .0 .0 .0 .1, h .0 (g .0 .0 .1), k .0 (g .0 .1), l .0 (g .1), f .0 .0 .1, f .0 .1, f .1) in e,
   λ e.
       rw (
         h .1 (ap (λ (x : State). x .signal) e),

@@ -8,8 +8,9 @@ use Rattle.layout.specs.Layout.{u16At}
 use Rattle.card.specs.Card.{cardWidth, cardAt}
 use Rattle.desk.specs.declared.Desk.{Desk}
 use Rattle.desk.specs.Calls.{openOutcome, tickOutcome, tickJournal, backOutcome, restartOutcome}
+use Rattle.why.specs.Why.{whyReasons}
 use Rattle.script.specs.declared.Reply.{Reply}
-use Rattle.script.specs.declared.Reply.the-variants.{Line, BadScript}
+use Rattle.script.specs.declared.Reply.the-variants.{Line, Why, BadScript}
 use Rattle.script.specs.Sample.{sampleWidth, sampleAt}
 
 -- the card, then the journal's length as a u16
@@ -33,6 +34,9 @@ stepBack = 2
 abbrev pub restart : ℕ
 restart = 3
 
+abbrev pub why : ℕ
+why = 4
+
 -- the most bytes of a call: those of a tick
 abbrev pub callMost : ℕ
 callMost = 1 + sampleWidth
@@ -42,7 +46,8 @@ unfoldable pub callWidth : ℕ → ℕ
 callWidth kind =
     cond (eqb kind tick) callMost
     (cond (eqb kind stepBack) (1 + 2)
-    (cond (eqb kind restart) 1 0))
+    (cond (eqb kind restart) 1
+    (cond (eqb kind why) 1 0)))
 
 module _ (desk : Desk) (call journal : List ℕ) where
   abbrev pub kind : ℕ
@@ -58,7 +63,8 @@ module _ (desk : Desk) (call journal : List ℕ) where
       (cond (eqb kind tick) (Line (tickOutcome desk (sampleAt call 1) journal))
       (cond (eqb kind stepBack) (Line (backOutcome desk (u16At call 1) journal))
       (cond (eqb kind restart) (Line (restartOutcome desk))
-      BadScript)))
+      (cond (eqb kind why) (Why (whyReasons desk journal))
+      BadScript))))
 
   -- a tick alone writes to the journal
   unfoldable pub playJournal : List ℕ

@@ -10,6 +10,7 @@ use layout::byte_at;
 use layout::u16_at;
 use reading::float_of_bits;
 use record::Sample;
+use why::Reasons;
 
 // The card, and the journal's length as a u16.
 pub const HEADER_WIDTH: usize = CARD_WIDTH + 2;
@@ -21,6 +22,8 @@ const STEP_BACK: u8 = 2;
 
 const RESTART: u8 = 3;
 
+const WHY: u8 = 4;
+
 // How many bytes a sample takes.
 const SAMPLE_WIDTH: usize = 13;
 
@@ -31,6 +34,8 @@ pub const CALL_MOST: usize = 1 + SAMPLE_WIDTH;
 pub enum Reply {
     // what is printed as a line
     Line(Outcome),
+    // why the valve is open, printed as a line too; the desk is as it was
+    Why(Reasons),
     // an unknown call, or a header or a call cut short
     BadScript,
 }
@@ -83,6 +88,7 @@ pub fn call_width(kind: u8) -> usize
         TICK => CALL_MOST,
         STEP_BACK => 1 + 2,
         RESTART => 1,
+        WHY => 1,
         _ => 0,
     }
 }
@@ -105,6 +111,9 @@ pub fn play(desk: Desk, call: &[u8], journal: &mut [u8]) -> Reply
     }
     if kind == RESTART {
         return Reply::Line(desk.restart());
+    }
+    if kind == WHY {
+        return Reply::Why(why::why(desk, journal));
     }
     Reply::BadScript
 }

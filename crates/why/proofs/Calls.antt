@@ -15,17 +15,16 @@ use Rattle.record.specs.Record.{recordWidth}
 use Rattle.causes.specs.declared.Causes.{Causes}
 use Rattle.causes.specs.Held.{heldIn}
 use Rattle.causes.specs.Cause.{Cause, NZ1, NZ2, NZ3, NZ4, NZ5, of}
-use Rattle.rules.specs.After.{after}
 use Rattle.journal.specs.Journal.{records, allInRange}
 use Rattle.desk.specs.declared.Desk.{Desk}
 use Rattle.desk.specs.Calls.{deskRefusal}
-use Rattle.desk.proofs.Calls.{DeskTaken, desk-taken}
+use Rattle.desk.proofs.Calls.{DeskTaken, desk-taken, taken-desk}
 use Rattle.same.proofs.Desks.{sameDesk?}
 use Rattle.why.specs.declared.Starts.{Starts}
 use Rattle.why.specs.declared.Reasons.{Reasons}
 use Rattle.why.specs.declared.Told.{Told}
 use Rattle.why.specs.Why.{refused, heldAfter, began, rebuilt, reasonOf, reasonFor, reasons, whyRefusal, whyReasons}
-use Rattle.why.specs.Told.{notTold, startsAfter, retold, retoldRefusal, startOf, StartFits, reasonsOf}
+use Rattle.why.specs.Told.{notTold, startsAfter, allTold, retold, retoldRefusal, startOf, StartFits, reasonsOf}
 use Rattle.why.proofs.Began.{began-then}
 
 pub record WhyTaken (desk : Desk) (journal : List ℕ) : Type 0 where
@@ -49,9 +48,15 @@ module _ (d : Desk) (J : List ℕ) where
         held = eqb-false _ _ (closed .0);
       }
 
+  pub taken-why : WhyTaken d J → whyRefusal d J ≡ 0
+  unfolding whyRefusal
+  taken-why t =
+      let same = decide-iff (sameDesk? d (rebuilt d J)) .1 (t .same) in
+      rw (taken-desk d (length J) (t .fit), first-zero, t .good, same, ne-eqb _ _ (t .held))
+
   -- ---- what the pass comes to
   told-by : (good : Bool)
-      → retoldRefusal d (cond good (record { refusal = 0; state = after (d .card) (records J) (d .n) .state; starts = startsAfter (d .card) J (d .n) }) notTold)
+      → retoldRefusal d (cond good (allTold (d .card) J (d .n)) notTold)
       ≡ cond (not good) badRecord
       (cond (not (decide (sameDesk? d (rebuilt d J)))) otherDesk
       (cond (eqb (d .state .causes) 0) valveClosed 0))

@@ -3,3 +3,4 @@ pub mod Began
 pub mod Calls
 pub mod Determined
 pub mod Promise
+pub mod Alike

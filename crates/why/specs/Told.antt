@@ -51,9 +51,11 @@ module _ (card : Card) (journal : List ℕ) where
         nz5 = began card (records journal) NZ5 n;
       }
 
+  abbrev pub allTold : ℕ → Told
+  allTold n = record { refusal = 0; state = after card (records journal) n .state; starts = startsAfter n }
+
   unfoldable pub retold : ℕ → Told
-  retold n =
-      cond (allInRange journal n) (record { refusal = 0; state = after card (records journal) n .state; starts = startsAfter n }) notTold
+  retold n = cond (allInRange journal n) (allTold n) notTold
 
 -- 9, 23, 14
 unfoldable pub retoldRefusal : Desk → Told → ℕ

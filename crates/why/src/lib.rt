@@ -145,10 +145,10 @@ fn retold(card: Card, journal: &[u8], n: u16) -> Told
             return not_told();
         }
         let tick = rules::advance(card, state, reading);
-        i += 1;
-        starts = starts_at(i, state.causes, tick.state.causes, starts);
+        starts = starts_at(i + 1, state.causes, tick.state.causes, starts);
         let next = tick.state;
         state = next;
+        i += 1;
     }
     Told {
         refusal: 0,
@@ -171,10 +171,12 @@ fn retold_refusal(desk: Desk, told: Told) -> u8
         n: desk.n,
         state: state,
     };
-    if !same::same_desk(desk, rebuilt) {
+    let other = !same::same_desk(desk, rebuilt);
+    let closed = desk.state.causes == 0;
+    if other {
         return refusal::OTHER_DESK;
     }
-    if desk.state.causes == 0 {
+    if closed {
         return refusal::VALVE_CLOSED;
     }
     0

@@ -22,9 +22,13 @@ returns-3 c = (simp (c .match .keys3), search needs)
 
 returns-4 : tie.Need-returns-4
 unfolding callWidth
-returns-4 c =
+returns-4 c = (simp (c .match .keys4), search needs)
+
+returns-5 : tie.Need-returns-5
+unfolding callWidth
+returns-5 c =
     let no = c .match .rest in
-    (simp (ne-eqb _ _ (no .0 .0 .1), ne-eqb _ _ (no .0 .1), ne-eqb _ _ (no .1)), search needs)
+    (simp (ne-eqb _ _ (no .0 .0 .0 .1), ne-eqb _ _ (no .0 .0 .1), ne-eqb _ _ (no .0 .1), ne-eqb _ _ (no .1)), search needs)
 
 pub call-width-spec : {M : Type 1} → statement M
-call-width-spec = tie.close (tie.spec add-result returns returns-2 returns-3 returns-4)
+call-width-spec = tie.close (tie.spec add-result returns returns-2 returns-3 returns-4 returns-5)

@@ -87,17 +87,46 @@ returns-4 c =
       simp (← kind, ← w .call-width .ensures .0, whole, no),
     )
 
+why-requires : tie.Need-why-requires
+why-requires c κs = search needs
+
+same-length-3 : tie.Need-same-length-3
+same-length-3 c = search needs
+
 returns-5 : tie.Need-returns-5
 unfolding playReply playJournal
 returns-5 c =
-    let i = c .before .before .before in
-    let w = i .before in
+    let at-if5 = c .before .before in
+    let at-if4 = at-if5 .before in
+    let at-if3 = at-if4 .before in
+    let at-if2 = at-if3 .before in
+    let at-if1 = at-if2 .before in
+    let w = at-if1 .before in
     let kind = w .before .byte-at .ensures in
-    let whole = le-ltb _ _ (i .if1 .left) in
-    let no = ne-eqb _ _ (c .before .before .if2 .left) in
-    let nor = ne-eqb _ _ (c .before .if3 .left) in
-    let neither = ne-eqb _ _ (c .if4 .left) in (
-      simp (← kind, ← w .call-width .ensures .0, whole, no, nor, neither),
+    let whole = le-ltb _ _ (at-if1 .if1 .left) in
+    let no = ne-eqb _ _ (at-if2 .if2 .left) in
+    let nor = ne-eqb _ _ (at-if3 .if3 .left) in
+    let neither = ne-eqb _ _ (at-if4 .if4 .left) in
+    let is = eq-eqb _ _ (at-if5 .if5 .taken) in (
+      simp (← kind, ← w .call-width .ensures .0, whole, no, nor, neither, is, ← c .why .ensures),
+      simp (← kind, ← w .call-width .ensures .0, whole, no),
+    )
+
+returns-6 : tie.Need-returns-6
+unfolding playReply playJournal
+returns-6 c =
+    let at-if4 = c .before in
+    let at-if3 = at-if4 .before in
+    let at-if2 = at-if3 .before in
+    let at-if1 = at-if2 .before in
+    let w = at-if1 .before in
+    let kind = w .before .byte-at .ensures in
+    let whole = le-ltb _ _ (at-if1 .if1 .left) in
+    let no = ne-eqb _ _ (at-if2 .if2 .left) in
+    let nor = ne-eqb _ _ (at-if3 .if3 .left) in
+    let neither = ne-eqb _ _ (at-if4 .if4 .left) in
+    let none = ne-eqb _ _ (c .if5 .left) in (
+      simp (← kind, ← w .call-width .ensures .0, whole, no, nor, neither, none),
       simp (← kind, ← w .call-width .ensures .0, whole, no),
     )
 
@@ -119,4 +148,7 @@ play-spec =
     returns-3
     restart-requires
     returns-4
-    returns-5)
+    why-requires
+    same-length-3
+    returns-5
+    returns-6)

@@ -15,7 +15,8 @@ no-reason-requires c κs = search needs
 returns : tie.Need-returns
 unfolding reasonOf
 returns c =
-    let no : c .before .before .before .args .held ≡ false = not-true _ (c .before .if1 .taken) in
+    let args = c .before .before .before .args in
+    let no : args .held ≡ false = not-true _ (c .before .if1 .taken) in
     rw no (c .no-reason .ensures)
 
 sub-record-at : tie.Need-sub-record-at
@@ -30,7 +31,8 @@ record-at-requires c κs = let fits = c .before .before .pre (not-false _ (c .if
 returns-2 : tie.Need-returns-2
 unfolding reasonOf records
 returns-2 c =
-    let yes : c .before .before .before .args .held ≡ true = not-false _ (c .before .if1 .left) in
+    let args = c .before .before .before .args in
+    let yes : args .held ≡ true = not-false _ (c .before .if1 .left) in
     rw (yes, ← c .record-at .ensures)
 
 pub reason-of-spec : {M : Type 1} → statement M

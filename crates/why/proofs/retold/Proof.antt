@@ -109,14 +109,22 @@ advance-requires c κs =
     let good = sym (c .before .record-in-range .ensures) ∙ not-false _ (c .if1 .left) in
     (start .pre .0, at-loop .loop .inv .ranges, record-ranges _ good)
 
-add-i : tie.Need-add-i Inv-loop μ-loop
-add-i c =
+-- a tick more is one of n
+add-starts-at : tie.Need-add-starts-at Inv-loop μ-loop
+add-starts-at c =
     let at-test = c .before .before .before .before in
     let start = at-test .before .before .before .before .before in
     omega (arith, at-test .loop-test .taken, start .fits)
 
 starts-at-requires : tie.Need-starts-at-requires Inv-loop μ-loop
 starts-at-requires c κs = search needs
+
+add-i : tie.Need-add-i Inv-loop μ-loop
+add-i c =
+    let at-advance = c .before .before in
+    let at-test = at-advance .before .before .before .before in
+    let start = at-test .before .before .before .before .before in
+    omega (arith, at-test .loop-test .taken, start .fits)
 
 loop-less : tie.Need-loop-less Inv-loop μ-loop
 loop-less c = omega arith
@@ -162,8 +170,9 @@ retold-spec =
     not-told-requires
     returns
     advance-requires
-    add-i
+    add-starts-at
     starts-at-requires
+    add-i
     loop-less
     loop-again
     returns-2)

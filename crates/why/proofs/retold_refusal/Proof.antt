@@ -1,6 +1,6 @@
 -- `retold_refusal` meets its contract: the refusal of the records comes first, then each return by its test; `same_desk` decides as `sameDesk?` does.
 use mathlib.Core.Path.{sym, _∙_}
-use borrow.Author.Tests.{eq-eqb, ne-eqb, not-true, not-false}
+use borrow.Author.Tests.{not-true, not-false}
 use borrow.Author.Needs.{needs}
 use Rattle.numbers.proofs.Tests.{decided}
 use Rattle.refusal.proofs.First.{first-some, first-zero}
@@ -19,22 +19,23 @@ same-desk-requires c κs = search needs
 returns-2 : tie.Need-returns-2
 unfolding retoldRefusal
 returns-2 c =
-    let other = sym (decided (sameDesk? _ _) _ (c .before .same-desk .ensures)) ∙ not-true _ (c .if2 .taken) in
-    simp (c .before .before .before .before .if1 .left, first-zero, other)
+    let at-same = c .before .before in
+    let other = sym (decided (sameDesk? _ _) _ (at-same .same-desk .ensures)) ∙ not-true _ (c .if2 .taken) in
+    simp (at-same .before .before .before .if1 .left, first-zero, other)
 
 returns-3 : tie.Need-returns-3
 unfolding retoldRefusal
 returns-3 c =
     let at-same = c .before .before .before in
-    let same = sym (decided (sameDesk? _ _) _ (at-same .same-desk .ensures)) ∙ not-false _ (c .before .before .if2 .left) in
-    simp (at-same .before .before .before .if1 .left, first-zero, same, eq-eqb _ _ (c .if3 .taken))
+    let same = sym (decided (sameDesk? _ _) _ (at-same .same-desk .ensures)) ∙ not-false _ (c .before .if2 .left) in
+    simp (at-same .before .before .before .if1 .left, first-zero, same, c .if3 .taken)
 
 returns-4 : tie.Need-returns-4
 unfolding retoldRefusal
 returns-4 c =
     let at-same = c .before .before .before in
-    let same = sym (decided (sameDesk? _ _) _ (at-same .same-desk .ensures)) ∙ not-false _ (c .before .before .if2 .left) in
-    simp (at-same .before .before .before .if1 .left, first-zero, same, ne-eqb _ _ (c .if3 .left))
+    let same = sym (decided (sameDesk? _ _) _ (at-same .same-desk .ensures)) ∙ not-false _ (c .before .if2 .left) in
+    simp (at-same .before .before .before .if1 .left, first-zero, same, c .if3 .left)
 
 pub retold-refusal-spec : {M : Type 1} → statement M
 retold-refusal-spec = tie.close (tie.spec returns same-desk-requires returns-2 returns-3 returns-4)

@@ -1,3 +1,4 @@
+-- `starts_at` meets its contract: each start by `start_at`, the causes by `held_in`.
 use Rattle.why.specs.Told.{startsAt}
 use borrow.Author.Needs.{needs}
 use Rattle.why.proofs.starts_at.Statement.{statement}
@@ -26,7 +27,18 @@ start-at-requires-5 c κs = search needs
 
 returns : tie.Need-returns
 unfolding startsAt
-returns c = simp (← c .start-at5 .ensures, ← c .before .start-at4 .ensures, ← c .before .before .start-at3 .ensures, ← c .before .before .before .start-at2 .ensures, ← c .before .before .before .before .start-at .ensures, ← c .before .before .before .before .before .held-in2 .ensures, ← c .before .before .before .before .before .before .held-in .ensures)
+returns c =
+    let at-nz3 = c .before .before in
+    let at-held = at-nz3 .before .before .before in
+    simp (
+      ← c .start-at5 .ensures,
+      ← c .before .start-at4 .ensures,
+      ← at-nz3 .start-at3 .ensures,
+      ← at-nz3 .before .start-at2 .ensures,
+      ← at-nz3 .before .before .start-at .ensures,
+      ← at-held .held-in2 .ensures,
+      ← at-held .before .held-in .ensures,
+    )
 
 pub starts-at-spec : {M : Type 1} → statement M
 starts-at-spec =

@@ -1,13 +1,12 @@
--- `put_number` meets its contract: four digits, the last one and the end put one behind the other are put as one.
--- By `put-four` and `put-then`; the line has room for all six bytes.
-use native.Mathlib.Omega.{arith}
+-- `put_decimal` meets its contract: four digits and the last one put one behind the other are put as one.
+-- By `put-four` and `put-then`; there is room for all five.
 use Prim.Native.Nat.{_+_, _%_}
 use lib.ListN.{length-set}
-use Rattle.line.specs.Line.{decimal, number}
+use Rattle.line.specs.Line.{decimal}
 use Rattle.line.proofs.Put.{put, put-one, put-then, put-four}
 use borrow.Author.Needs.{needs}
-use Rattle.line.proofs.put_number.Statement.{statement}
-use Rattle.line.proofs.put_number.Tie as tie
+use Rattle.line.proofs.put_decimal.Statement.{statement}
+use Rattle.line.proofs.put_decimal.Tie as tie
 
 put-digit-requires : tie.Need-put-digit-requires
 put-digit-requires c κs = search needs
@@ -30,12 +29,6 @@ add-out c = search needs
 slice-write-out : tie.Need-slice-write-out
 slice-write-out c = search needs
 
-add-out-2 : tie.Need-add-out-2
-add-out-2 c = search needs
-
-slice-write-out-2 : tie.Need-slice-write-out-2
-slice-write-out-2 c = simp length-set (search needs)
-
 add-result : tie.Need-add-result
 add-result c = search needs
 
@@ -43,7 +36,7 @@ same-length : tie.Need-same-length
 same-length c = simp length-set (search needs)
 
 returns : tie.Need-returns
-unfolding number decimal
+unfolding decimal
 returns c =
     let c4 = c .before .before in
     let slice4 = c4 .before .before in
@@ -57,11 +50,10 @@ returns c =
     let p4 =
     put-four (search needs) (put (c1 .put-digit .ensures)) (put (c2 .put-digit2 .ensures)) (put (c3 .put-digit3 .ensures)) (put (c4 .put-digit4 .ensures)) in
     let p5 = put-then (search needs) p4 (put-one (c4 .put-digit4 .last .0) (c4 .put-digit4 .result) (48 + a .x % 10) (search needs)) in
-    let p6 = put-then (search needs) p5 (put-one _ (c4 .put-digit4 .result + 1) (a .end) (simp length-set (search needs))) in
-    ((omega (arith, p6 .place), search needs), p6 .list)
+    ((p5 .place, search needs), p5 .list)
 
-pub put-number-spec : {M : Type 1} → statement M
-put-number-spec =
+pub put-decimal-spec : {M : Type 1} → statement M
+put-decimal-spec =
     tie.close
     (tie.spec
     put-digit-requires
@@ -71,8 +63,6 @@ put-number-spec =
     cast-out
     add-out
     slice-write-out
-    add-out-2
-    slice-write-out-2
     add-result
     same-length
     returns)
