@@ -75,10 +75,10 @@ static void print_record(const uint8_t *record)
                                         "remote stop", "adhesion loss", "cab"};
     const char *before = "";
 
-    printf("  that mode asked for, ");
+    printf("  ");
     print_speed(read_half(record));
-    printf(", lever %s, motion %s, main line %s, on: ", directions[record[AT_LEVER]], directions[record[AT_SENSE]],
-           bands[record[AT_BAND]]);
+    printf(", mode asked for as above, lever %s, motion %s, main line %s, on: ", directions[record[AT_LEVER]],
+           directions[record[AT_SENSE]], bands[record[AT_BAND]]);
     for (size_t bit = 0; bit < sizeof flags / sizeof flags[0]; bit++)
         if (record[AT_FLAGS] >> bit & 1) {
             printf("%s%s", before, flags[bit]);

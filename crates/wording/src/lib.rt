@@ -175,9 +175,9 @@ fn print_flags(written: bool, flags: u8) -> bool {
 
 // What a record has beside its code and its mode.
 fn print_record(written: bool, reading: Record) -> bool {
-    let done = print(written, b"  that mode asked for, ");
+    let done = print(written, b"  ");
     let done = print_speed(done, reading.v);
-    let done = print(done, b", lever ");
+    let done = print(done, b", mode asked for as above, lever ");
     let done = print_direction(done, reading.lever);
     let done = print(done, b", motion ");
     let done = print_direction(done, reading.sense);
