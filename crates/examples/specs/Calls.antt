@@ -1,5 +1,5 @@
 -- What each call on a desk gives, on literal desks, samples and journals: every number of refusal, which one where several apply,
--- and what is written. A row looks at the number, the whole desk, the whole answer and, of a tick, every byte of the journal.
+-- and what is written. A row looks at the number, the whole desk, the whole answer and, of a tick, every byte of the journal; of why at every reason.
 use Prim.Native.Nat.{ℕ}
 use mathlib.Core.List.{List, [], _∷_, _++_, map}
 use lib.ListN.{set, take, replicate}
@@ -7,7 +7,9 @@ use Rattle.record.specs.declared.Sample.{Sample}
 use Rattle.desk.specs.declared.Outcome.{Outcome}
 use Rattle.journal.specs.Journal.{capacity}
 use Rattle.desk.specs.Calls.{openOutcome, tickRefusalOf, tickOutcome, tickJournal, backOutcome, restartOutcome}
-use Rattle.examples.specs.Literals.{cardOf, deskOf, deskK, sampleOf, deskNumbers, answerNumbers}
+use Rattle.why.specs.declared.Reasons.{Reasons}
+use Rattle.why.specs.Why.{whyReasons}
+use Rattle.examples.specs.Literals.{cardOf, deskOf, deskK, sampleOf, deskNumbers, answerNumbers, reasonNumbers}
 use Rattle.examples.specs.Rows.{Row}
 
 -- ---- desks, by their 28 numbers
@@ -97,6 +99,26 @@ thirdBad = set three 23 3
 abbrev secondBad : List ℕ
 secondBad = set three 10 5
 
+-- v 0 with remote stop; then off, with a vigilance press; v 1431 with remote stop
+abbrev remote : List ℕ
+remote = 0 ∷ 0 ∷ 4 ∷ 2 ∷ 1 ∷ 88 ∷ 2 ∷ 0 ∷ []
+
+abbrev press : List ℕ
+press = 0 ∷ 0 ∷ 4 ∷ 2 ∷ 1 ∷ 73 ∷ 2 ∷ 0 ∷ []
+
+abbrev fast : List ℕ
+fast = 151 ∷ 5 ∷ 4 ∷ 2 ∷ 1 ∷ 80 ∷ 2 ∷ 1 ∷ []
+
+-- NZ4 is held, let go, held again, and then NZ2 beside it
+abbrev braked : List ℕ
+braked = first ++ remote ++ press ++ remote ++ fast
+
+abbrev afterRemote : List ℕ
+afterRemote = deskK (2 ∷ 2 ∷ 0 ∷ 4 ∷ replicate 13 0 ++ (8 ∷ []))
+
+abbrev afterFast : List ℕ
+afterFast = deskK (5 ∷ 2 ∷ 0 ∷ 4 ∷ replicate 9 0 ++ (1 ∷ 0 ∷ 0 ∷ 0 ∷ 10 ∷ []))
+
 -- ---- rows
 
 abbrev numbers : Outcome → List ℕ
@@ -143,6 +165,17 @@ backRefused desk back journal number = goesBack desk back journal number desk si
 
 abbrev restarts : List ℕ → ℕ → List ℕ → Row
 restarts desk number next = gives (restartOutcome (deskOf desk)) number next silence
+
+-- why: a number, and of each cause its tick and the fields of that tick's record
+abbrev tells : List ℕ → List ℕ → ℕ → List ℕ → Row
+tells desk journal number reasons = record { what = reasonNumbers (whyReasons (deskOf desk) journal); is = number ∷ reasons }
+
+-- nothing of a cause that is not held
+abbrev free : List ℕ
+free = replicate 8 0
+
+abbrev whyRefused : List ℕ → List ℕ → ℕ → Row
+whyRefused desk journal number = tells desk journal number (free ++ free ++ free ++ free ++ free)
 
 -- ---- the table
 unfoldable pub calls : List Row
@@ -218,4 +251,26 @@ calls =
     ∷ restarts (bad 2) 5 (bad 2)
     ∷ restarts (badCard 2) 5 (badCard 2)
     ∷ restarts (busy 2) 0 (good 0)
+    -- why, each number by itself: 5 by a field and by the card; 6; 9; 23; 14
+    ∷ whyRefused (bad 3) three 5
+    ∷ whyRefused (badCard 3) three 5
+    ∷ whyRefused (set afterThird 27 1) (take 23 three) 6
+    ∷ whyRefused afterThird thirdBad 9
+    ∷ whyRefused (busy 3) three 23
+    ∷ whyRefused afterThird three 14
+    -- the first of two that apply
+    ∷ whyRefused (bad 3) (take 23 three) 5
+    ∷ whyRefused afterThird (take 23 thirdBad) 6
+    ∷ whyRefused (busy 3) thirdBad 9
+    ∷ whyRefused (good 3) three 23
+    -- 23 for n and for each field of the state
+    ∷ record {
+      what = map (λ field. whyReasons (deskOf (set afterRemote field 1)) braked .refusal)
+          (10 ∷ 11 ∷ 12 ∷ 13 ∷ 14 ∷ 15 ∷ 16 ∷ 17 ∷ 18 ∷ 19 ∷ 20 ∷ 21 ∷ 22 ∷ 23 ∷ 24 ∷ 25 ∷ 26 ∷ 27 ∷ []);
+      is = replicate 18 23;
+    }
+    -- the present holding began in the second tick; let go and begun again, in the fourth
+    ∷ tells afterRemote braked 0 (free ++ free ++ free ++ (2 ∷ 0 ∷ 4 ∷ 2 ∷ 1 ∷ 88 ∷ 2 ∷ 0 ∷ []) ++ free)
+    ∷ tells afterFast braked 0
+    (free ++ (5 ∷ 1431 ∷ 4 ∷ 2 ∷ 1 ∷ 80 ∷ 2 ∷ 1 ∷ []) ++ free ++ (4 ∷ 0 ∷ 4 ∷ 2 ∷ 1 ∷ 88 ∷ 2 ∷ 0 ∷ []) ++ free)
     ∷ []

@@ -1,4 +1,4 @@
--- Cards, desks and samples of literal numbers, and the numbers of a desk and an answer, in the paper's order. Only here do the tables name fields.
+-- Cards, desks and samples of literal numbers, and the numbers of a desk, an answer and reasons, in the paper's order. Only here do the tables name fields.
 use Prim.Native.Nat.{ℕ}
 use mathlib.Core.List.{List, [], _∷_, _++_}
 use lib.ListN.{getD}
@@ -8,6 +8,8 @@ use Rattle.record.specs.declared.Sample.{Sample}
 use Rattle.state.specs.declared.State.{State}
 use Rattle.rules.specs.declared.Answer.{Answer}
 use Rattle.desk.specs.declared.Desk.{Desk}
+use Rattle.why.specs.declared.Reason.{Reason}
+use Rattle.why.specs.declared.Reasons.{Reasons}
 use Rattle.examples.specs.Drive.{cardK}
 
 -- ten numbers
@@ -92,3 +94,14 @@ answerNumbers a = a .permitted ∷ a .target ∷ a .marks ∷ a .causes ∷ a .l
 -- the numbers of a desk of card K, from n on
 abbrev pub deskK : List ℕ → List ℕ
 deskK rest = cardNumbers cardK ++ rest
+
+-- of a cause: the tick and the record's fields
+abbrev ofCause : Reason → List ℕ
+ofCause reason =
+    reason .tick ∷ reason .reading .v ∷ reason .reading .code ∷ reason .reading .mode ∷ reason .reading .lever ∷ reason .reading .flags
+    ∷ reason .reading .band ∷ reason .reading .sense ∷ []
+
+-- 41 numbers: the refusal, then the causes' in their order
+abbrev pub reasonNumbers : Reasons → List ℕ
+reasonNumbers reasons =
+    reasons .refusal ∷ ofCause (reasons .nz1) ++ ofCause (reasons .nz2) ++ ofCause (reasons .nz3) ++ ofCause (reasons .nz4) ++ ofCause (reasons .nz5)

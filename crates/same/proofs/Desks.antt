@@ -6,11 +6,11 @@ use mathlib.Core.Logic.{_↔_}
 use Rattle.desk.specs.declared.Desk.{Desk}
 use Rattle.same.proofs.Fields.{same-card, same-codes, same-curve, same-signal, same-prompt, same-cyclic, same-state, same-desk}
 
-by-test : {P : Type 0} (b : Bool) → (b ≡ true) ↔ P → Dec P
+unfoldable pub by-test : {P : Type 0} (b : Bool) → (b ≡ true) ↔ P → Dec P
 by-test true h = yes (h .0 refl)
 by-test false h = no (λ p. false≢true (h .1 p))
 
-pub sameDesk? : (a b : Desk) → Dec (a ≡ b)
+unfoldable pub sameDesk? : (a b : Desk) → Dec (a ≡ b)
 sameDesk? a b =
     let signal = same-signal (a .state .signal) (b .state .signal) _ _ (same-codes _ _) (same-curve _ _) in
     let state = same-state (a .state) (b .state) _ _ _ signal (same-prompt _ _) (same-cyclic _ _) in
