@@ -7,7 +7,7 @@
  *   foldharbor_tick            the cab's readings in, the answer out
  *   foldharbor_step_back       strikes the last so many ticks
  *   foldharbor_restart         strikes all of them
- *   foldharbor_why             tells which ticks opened the valve
+ *   foldharbor_why             tells since which tick each cause is held
  *
  * A whole exercise, a file of cards and runs:
  *
@@ -106,7 +106,6 @@ enum { /* sizes in bytes, and limits */
     FOLDHARBOR_RECORD_BYTES = 8,
     FOLDHARBOR_JOURNAL_BYTES = FOLDHARBOR_RECORD_BYTES * FOLDHARBOR_MOST_TICKS, /* enough for any drive */
     FOLDHARBOR_ANSWER_BYTES = 8,
-    FOLDHARBOR_CAUSES = 5, /* how many there are */
     FOLDHARBOR_CARD_BYTES = 20,
     FOLDHARBOR_MOST_SPEED = 2500, /* of a card and of a record */
     FOLDHARBOR_MOST_TOLERANCE = 100,
@@ -219,7 +218,8 @@ enum {
     FOLDHARBOR_NZ2 = 1 << 1, /* faster than P and the tolerance (at most P) */
     FOLDHARBOR_NZ3 = 1 << 2, /* moved 10 m without cab on, or without sense and lever both 1 or both 2 (speed 0) */
     FOLDHARBOR_NZ4 = 1 << 3, /* remote stop (speed 0, remote stop off) */
-    FOLDHARBOR_NZ5 = 1 << 4  /* stood for the card's wait, direct brake off and from 4.5 bar (always) */
+    FOLDHARBOR_NZ5 = 1 << 4, /* stood for the card's wait, direct brake off and from 4.5 bar (always) */
+    FOLDHARBOR_CAUSES = 5    /* how many there are */
 };
 
 /* An answer: what the desk shows after a tick. */
@@ -234,8 +234,9 @@ typedef struct foldharbor_answer {
 
 /*
  * The desk: all that is kept between ticks. A host keeps it, copies it, puts it back, together with the first 8n bytes
- * of its journal, and hands it to the next call. It may read the fields; what it writes there the next call judges by
- * its range alone (FOLDHARBOR_BAD_DESK). Desks are compared field by field: bytes between the fields hold anything.
+ * of its journal, and hands it to the next call. It may read the fields; what it writes there a call judges by its
+ * range alone (FOLDHARBOR_BAD_DESK), foldharbor_why by the journal too (FOLDHARBOR_OTHER_DESK). Desks are compared
+ * field by field: bytes between the fields hold anything.
  */
 typedef struct foldharbor_codes {
     uint8_t last;        /* code of the last tick; 0 outside PRE (0 to 4) */
@@ -284,8 +285,9 @@ typedef struct foldharbor_desk {
 } foldharbor_desk;
 
 /*
- * What a call on a desk returns. A refusal gives back the desk that was handed in, and an answer of zeros. So a host
- * always goes on with the desk, and sets the valve by desk.state.causes, which a refused reading leaves as it was.
+ * What a call on a desk returns, but for foldharbor_why. A refusal gives back the desk that was handed in, and an
+ * answer of zeros. So a host always goes on with the desk, and sets the valve by desk.state.causes, which a refused
+ * reading leaves as it was.
  *
  * A refused tick did not happen: no time passes on the desk, and prompts and curves stand still. A host whose ticks
  * stay refused, by bad readings or by a full journal, opens the valve by itself.
@@ -350,14 +352,14 @@ typedef struct foldharbor_record {
 
 /* Why a cause is held; zeros where it is not. */
 typedef struct foldharbor_reason {
-    uint16_t tick; /* at which its present holding began: the drive's first is 1 (1 to 7200) */
+    uint16_t tick; /* at which its present holding began: the drive's first is 1 (1 to 7200; 0: not held) */
     foldharbor_record reading;
 } foldharbor_reason;
 
 /* Of each cause why it is held. */
 typedef struct foldharbor_reasons {
-    uint8_t refusal;                             /* 0 if accepted */
-    foldharbor_reason causes[FOLDHARBOR_CAUSES]; /* by their bits: NZ1 is the first */
+    uint8_t refusal;                               /* 0 if accepted */
+    foldharbor_reason of_cause[FOLDHARBOR_CAUSES]; /* by the cause's bit: NZ1 is the first */
 } foldharbor_reasons;
 
 /*
@@ -366,20 +368,20 @@ typedef struct foldharbor_reasons {
  * that was let go and came again it is the tick at which it came again. Struck ticks do not count.
  *
  * Reads the n records of the desk and writes nothing: the drive goes on with the same desk. Tick t is t tenths of a
- * second after the start, so that each cause is printed with its tick and its time in minutes and seconds by
+ * second into the drive, so that each cause is printed with its tick and its time in minutes and seconds by
  *
  *   foldharbor_reasons why = foldharbor_why(out.desk, journal, sizeof journal);
  *
  *   for (unsigned bit = 0; bit < FOLDHARBOR_CAUSES; bit++) {
- *       unsigned tick = why.causes[bit].tick;
+ *       unsigned tick = why.of_cause[bit].tick;
  *
  *       if (tick > 0)
  *           printf("NZ%u since tick %u, %u:%02u.%u\n", bit + 1, tick, tick / 600, tick / 10 % 60, tick % 10);
  *   }
  *
- * The text of the cause is message FOLDHARBOR_TEXT_CAUSE + bit. A refusal gives zeros, so that this prints nothing.
- * Refusals: FOLDHARBOR_BAD_DESK, FOLDHARBOR_SHORT_JOURNAL, FOLDHARBOR_BAD_RECORD, FOLDHARBOR_OTHER_DESK,
- * FOLDHARBOR_VALVE_CLOSED, also where the host alone opened the valve.
+ * The text of the cause is message FOLDHARBOR_TEXT_CAUSE + bit. A refusal gives zeros beside its number, so that this
+ * prints nothing. Refusals: FOLDHARBOR_BAD_DESK, FOLDHARBOR_SHORT_JOURNAL, FOLDHARBOR_BAD_RECORD,
+ * FOLDHARBOR_OTHER_DESK, FOLDHARBOR_VALVE_CLOSED, also where the host alone opened the valve.
  */
 foldharbor_reasons foldharbor_why(foldharbor_desk desk, const uint8_t *journal, size_t journal_length);
 

@@ -262,7 +262,7 @@ static void tell_why(foldharbor_desk desk)
     else if (why.refusal != 0)
         printf("why refused: %u\n", why.refusal);
     for (unsigned bit = 0; bit < FOLDHARBOR_CAUSES; bit++) {
-        const foldharbor_reason *reason = &why.causes[bit];
+        const foldharbor_reason *reason = &why.of_cause[bit];
 
         if (reason->tick > 0)
             printf("NZ%u held since tick %u, %.1f s, at %.1f km/h\n", bit + 1, reason->tick, reason->tick / 10.0,

@@ -60,7 +60,7 @@ change foldharbor_exercise/src/lib.rt 's/file::read(exercise)/let mut counts = &
     -e 's/x ≡ \(readOutcome (now (exercise \.entry))\)/x ≡ record { refusal = \1 .refusal; cards = \1 .cards; runs = \1 .runs; ticks = \1 .runs }/'
 change foldharbor_exercise/proofs/foldharbor_read_exercise/Proof.antt 's/^returns c = .*/returns c = rw (← c .read .ensures)/'
 # a call that tells why of the desk as its journal rebuilds it, and so never gives 23
-change foldharbor_why/src/lib.rt 's/whyReasons desk (\(now (journal \.entry)\))/whyReasons (backOutcome desk 0 (\1) .desk) (\1)/' \
+change foldharbor_why/src/lib.rt 's/whyOutcome desk (\(now (journal \.entry)\))/whyOutcome (backOutcome desk 0 (\1) .desk) (\1)/' \
     -e 's/why::why(desk, journal)/let back = desk.step_back(0, journal).desk; why::why(back, journal)/' \
     -e 's/^ghost use Rattle.*/&\nghost use Rattle.desk.specs.Calls.{backOutcome};/'
 change foldharbor_why/proofs/foldharbor_why/Proof.antt '/^why-requires :/i\
@@ -95,6 +95,11 @@ change desk/src/lib.rt 's/return refusal::BAD_DESK;/return refusal::OTHER;/; s/S
 change desk/specs/Calls.antt '/^deskRefusal /{s/badDesk/other/; s/shortJournal/badDesk/; s/other/shortJournal/}'
 change desk/proofs/Calls.antt '/passed (/{s/badDesk/other/; s/shortJournal/badDesk/; s/other/shortJournal/}'
 
+# 14 where NZ1 alone is held, and why told of a closed valve
+change why/src/lib.rt 's/desk\.state\.causes == 0/desk.state.causes == 1/'
+change why/specs/Why.antt 's/eqb (desk \.state \.causes) 0/eqb (desk .state .causes) 1/'
+change why/proofs/Calls.antt 's/eqb (d \.state \.causes) 0/eqb (d .state .causes) 1/; s/causes ≡ 0 → ⊥/causes ≡ 1 → ⊥/'
+
 # a journal that takes 7,199 records
 change journal/src/lib.rt 's/let most = .*;/let most = 7199;/'
 change journal/specs/Journal.antt 's/min mostTicks/min 7199/'
@@ -106,8 +111,8 @@ change rules/src/lib.rt '/^        answer\.lowest,$/{N;s/lowest,\(.*\)held,/held
 change rules/specs/Answer.antt 's/answer \.lowest ∷ answer \.held/answer .held ∷ answer .lowest/' \
     -e 's/(at + 6)/(at + 8)/; s/(at + 7)/(at + 6)/; s/(at + 8)/(at + 7)/'
 
-refused "rules journal desk exercise foldharbor foldharbor_back foldharbor_exercise" \
-    "Functions:steps-back-is Functions:steps-back-reads Demand1:open-no Refusals:desk-first Demand3:room-for Valve:each"
+refused "rules journal desk why exercise foldharbor foldharbor_back foldharbor_why foldharbor_exercise" \
+    "Functions:steps-back-is Functions:steps-back-reads Demand1:open-no Refusals:desk-first Replay:why-open Demand3:room-for Valve:each"
 
 [ $wrong = 1 ] || rm -r target/contracts
 exit $wrong

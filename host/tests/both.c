@@ -211,7 +211,7 @@ static void tally_reasons(const foldharbor_reasons *reasons)
 
     refusals_seen[WHY][reasons->refusal]++;
     for (uint32_t i = 0; i < FOLDHARBOR_CAUSES; i++) {
-        uint16_t tick = reasons->causes[i].tick;
+        uint16_t tick = reasons->of_cause[i].tick;
 
         given += tick > 0;
         reasons_seen[i] += tick > 0;

@@ -48,8 +48,8 @@ static void tell_why(foldharbor_card card)
 
     foldharbor_reasons why = foldharbor_why(out.desk, journal, sizeof journal);
 
-    expect(why.refusal == 0 && why.causes[0].tick == 0 && why.causes[1].tick == 1, "why");
-    expect(why.causes[1].reading.v == 1800 && why.causes[1].reading.sense == FOLDHARBOR_FORWARD, "why's record");
+    expect(why.refusal == 0 && why.of_cause[0].tick == 0 && why.of_cause[1].tick == 1, "why");
+    expect(why.of_cause[1].reading.v == 1800 && why.of_cause[1].reading.sense == FOLDHARBOR_FORWARD, "why's record");
     out.desk.state.causes = FOLDHARBOR_NZ1;
     expect(foldharbor_why(out.desk, journal, sizeof journal).refusal == FOLDHARBOR_OTHER_DESK, "why of another desk");
 }

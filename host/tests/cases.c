@@ -334,10 +334,10 @@ static void compare_five_causes(struct dice *dice)
 
     foldharbor_reasons why = both_why(desk, RECORD_BYTES * ticks);
 
-    expect(why.causes[4].tick == stand, "NZ5 begins elsewhere");
-    expect(why.causes[1].tick == stand + 1, "NZ2 begins elsewhere");
-    expect(why.causes[2].tick == stand + 2 || why.causes[2].tick == stand + 3, "NZ3 begins elsewhere");
-    expect(why.causes[0].tick == ticks, "NZ1 begins elsewhere");
+    expect(why.of_cause[4].tick == stand, "NZ5 begins elsewhere");
+    expect(why.of_cause[1].tick == stand + 1, "NZ2 begins elsewhere");
+    expect(why.of_cause[2].tick == stand + 2 || why.of_cause[2].tick == stand + 3, "NZ3 begins elsewhere");
+    expect(why.of_cause[0].tick == ticks, "NZ1 begins elsewhere");
 }
 
 /*

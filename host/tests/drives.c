@@ -133,7 +133,7 @@ static void ask_why(struct drive *drive)
 
     expect(why.refusal == (drive->desk.state.causes == 0 ? REFUSED_CLOSED : 0), "why is refused for another reason");
     for (uint32_t bit = 0; bit < FOLDHARBOR_CAUSES; bit++) {
-        const foldharbor_reason *reason = &why.causes[bit];
+        const foldharbor_reason *reason = &why.of_cause[bit];
 
         expect(goes_with_history(reason, ticks, 1u << bit), "a reason does not go with what the ticks gave");
         held_again_seen += reason->tick > 0 && !first_time(reason->tick, 1u << bit);

@@ -196,16 +196,16 @@ static struct difference compare_reason(const foldharbor_reason *of_call, const 
 
 struct difference compare_reasons(const foldharbor_reasons *of_call, const struct reasons *of_model)
 {
-    static char name[sizeof "causes[0].reading.flags"];
+    static char name[sizeof "of_cause[0].reading.flags"];
 
     if (of_call->refusal != of_model->refusal)
         return (struct difference){"refusal", of_call->refusal, of_model->refusal};
     for (uint32_t i = 0; i < CAUSES; i++) {
-        struct difference first = compare_reason(&of_call->causes[i], &of_model->causes[i]);
+        struct difference first = compare_reason(&of_call->of_cause[i], &of_model->of_cause[i]);
 
         if (!first.name)
             continue;
-        snprintf(name, sizeof name, "causes[%" PRIu32 "].%s", i, first.name);
+        snprintf(name, sizeof name, "of_cause[%" PRIu32 "].%s", i, first.name);
         first.name = name;
         return first;
     }

@@ -298,7 +298,7 @@ static void ask_why(uint32_t ticks, uint32_t held)
     bool good = why.refusal == (held == 0 ? FOLDHARBOR_VALVE_CLOSED : 0);
 
     for (size_t i = 0; i < FOLDHARBOR_CAUSES; i++) {
-        const foldharbor_reason *reason = &why.causes[i];
+        const foldharbor_reason *reason = &why.of_cause[i];
 
         good &= (reason->tick > 0) == ((held & causes[i].mask) != 0);
         good &= reason->tick == 0 || is_of_run(&reason->reading, run_of(reason->tick));

@@ -672,7 +672,7 @@ struct reasons model_desk_why(struct desk desk, const uint8_t *journal, size_t j
             continue;
         uint32_t tick = tick_it_began(held, desk.ticks, 1u << bit);
 
-        reasons.causes[bit] = (struct reason){tick, read_record(journal + RECORD_BYTES * (tick - 1))};
+        reasons.of_cause[bit] = (struct reason){tick, read_record(journal + RECORD_BYTES * (tick - 1))};
     }
     return reasons;
 }

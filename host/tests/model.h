@@ -136,7 +136,7 @@ struct reason {
 
 struct reasons {
     uint32_t refusal; /* 0 if accepted */
-    struct reason causes[CAUSES];
+    struct reason of_cause[CAUSES];
 };
 
 struct exercise_counts {

@@ -37,9 +37,9 @@ struct fields { /* of a struct */
 #define PLACE(member) FIELD(foldharbor_place, member, 0, 0)
 #define REASONS(member) FIELD(foldharbor_reasons, member, 0, 0)
 #define REASON(i)                                                                                                      \
-    REASONS(causes[i].tick), REASONS(causes[i].reading.v), REASONS(causes[i].reading.code),                            \
-        REASONS(causes[i].reading.mode), REASONS(causes[i].reading.lever), REASONS(causes[i].reading.flags),           \
-        REASONS(causes[i].reading.band), REASONS(causes[i].reading.sense)
+    REASONS(of_cause[i].tick), REASONS(of_cause[i].reading.v), REASONS(of_cause[i].reading.code),                      \
+        REASONS(of_cause[i].reading.mode), REASONS(of_cause[i].reading.lever), REASONS(of_cause[i].reading.flags),     \
+        REASONS(of_cause[i].reading.band), REASONS(of_cause[i].reading.sense)
 
 enum {
     CARD_FIELDS = 10,

@@ -1,4 +1,4 @@
--- The five causes by name, and the one of five that a name means.
+-- The five causes by name, and whether one is among causes that are held, or triggered.
 use mathlib.Core.Bool.{Bool}
 use Rattle.causes.specs.declared.Causes.{Causes}
 
@@ -9,9 +9,9 @@ pub data Cause : Type 0 where
   NZ4 : Cause
   NZ5 : Cause
 
-unfoldable pub of : Cause → Causes → Bool
-of NZ1 causes = causes .nz1
-of NZ2 causes = causes .nz2
-of NZ3 causes = causes .nz3
-of NZ4 causes = causes .nz4
-of NZ5 causes = causes .nz5
+unfoldable pub among : Cause → Causes → Bool
+among NZ1 causes = causes .nz1
+among NZ2 causes = causes .nz2
+among NZ3 causes = causes .nz3
+among NZ4 causes = causes .nz4
+among NZ5 causes = causes .nz5

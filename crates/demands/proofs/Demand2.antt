@@ -176,7 +176,7 @@ demand2 = record {
       rw e (exactly _ _ refl (restart-first d), restart-yes d);
   why = λ d J x K f.
       let e = tells-is d J x K f in
-      rw (e .0) (rw Why.why-number (exactly _ _ refl (why-first d J)), λ a. (e .1, promised d J));
+      rw (e .0) (rw Why.why-number (exactly _ _ refl (why-first d J)), promised d J, e .1);
   reader = λ file c g f.
       let e = reads-is file c g f in
       rw (e .0) (

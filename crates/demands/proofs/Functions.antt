@@ -18,7 +18,7 @@ use Rattle.desk.specs.declared.Desk.{Desk}
 use Rattle.desk.specs.declared.Outcome.{Outcome}
 use Rattle.desk.specs.Calls.{openOutcome, tickOutcome, tickJournal, backOutcome, restartOutcome}
 use Rattle.why.specs.declared.Reasons.{Reasons}
-use Rattle.why.specs.Why.{whyReasons}
+use Rattle.why.specs.Why.{whyOutcome}
 use Rattle.file.specs.declared.Counts.{Counts}
 use Rattle.file.specs.declared.Total.{Total}
 use Rattle.file.specs.Read.{readOutcome}
@@ -192,9 +192,9 @@ unfolding functions
 restarts-is d o f = f .2
 
 pub tells-is : (d : Desk) (journal : List ℕ) (x : Reasons) (left : List ℕ) → functions .tells d journal x left
-    → (x ≡ whyReasons d journal) × (left ≡ journal)
+    → (x ≡ whyOutcome d journal) × (left ≡ journal)
 unfolding functions
-tells-is d journal x left f = (f .2 .post ∙ ap (whyReasons d) (f .1 .1), sym (f .2 .leaves) ∙ f .1 .1)
+tells-is d journal x left f = (f .2 .post ∙ ap (whyOutcome d) (f .1 .1), sym (f .2 .leaves) ∙ f .1 .1)
 
 pub reads-is : (file : List ℕ) (c : Counts) (file-left : List ℕ) → functions .reads file c file-left → (c ≡ readOutcome file) × (file-left ≡ file)
 unfolding functions
@@ -240,7 +240,7 @@ returning = record {
       );
   step-back = λ d k J. (λ κs j. from-nothing, backOutcome d k J, J, (([], tt), lent J, record { last = (tt, (tt, (tt, tt))); post = refl; leaves = refl }));
   restart = λ d. (λ κs. from-nothing, restartOutcome d, (tt, (d, tt), refl));
-  why = λ d J. (λ κs j. from-nothing, whyReasons d J, J, (([], tt), lent J, record { last = (tt, (tt, tt)); post = refl; leaves = refl }));
+  why = λ d J. (λ κs j. from-nothing, whyOutcome d J, J, (([], tt), lent J, record { last = (tt, (tt, tt)); post = refl; leaves = refl }));
   reader = λ file. (λ κs f. from-nothing, readOutcome file, file, (([], tt), lent file, record { last = (tt, tt); post = refl; leaves = refl }));
   exercise = λ file card B.
       let C = exerciseBuffer file card B in (

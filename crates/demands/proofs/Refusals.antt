@@ -26,7 +26,7 @@ use Rattle.desk.specs.declared.Outcome.{Outcome}
 use Rattle.desk.specs.Desk.{deskInRange, noDesk}
 use Rattle.desk.specs.Calls.{refused, begun, openOutcome, deskRefusal, tickRefusal, tickRefusalOf, backRefusal, restartOutcome}
 use Rattle.same.proofs.Desks.{sameDesk?}
-use Rattle.why.specs.Why.{rebuilt, whyRefusal}
+use Rattle.why.specs.Why.{rebuilt, rebuiltRefusal, whyRefusal}
 use Rattle.file.specs.File.{headerGood, cardCount, runCount, cardIn, runTicks, runRecord}
 use Rattle.file.specs.Runs.{ticksTo, runFault, runsRefusal}
 use Rattle.file.specs.Read.{tickCount, headRefusal, readRefusal}
@@ -106,7 +106,7 @@ back-first d k J =
     (if-so _ 9 0 none (some-iff (λ i. recordInRange (records J i)) (λ i. RecordFits (recordAt J (8 * i))) (λ i. record-fits _) (d .n - k)) no-reason))
 
 pub why-first : (d : Desk) (J : List ℕ) → First (whyRefusal d J) (Reasons.whyReasons d J)
-unfolding whyRefusal records
+unfolding whyRefusal rebuiltRefusal records
 why-first d J =
     first-then _ _ (reason 5 _ (reason 6 _ none)) (reason 9 _ (reason 23 _ (reason 14 _ none))) refl (desk-first d (length J))
     (if-so _ 9 _ _ (some-iff (λ i. recordInRange (records J i)) (λ i. RecordFits (recordAt J (8 * i))) (λ i. record-fits _) (d .n))

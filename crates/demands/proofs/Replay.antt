@@ -32,7 +32,7 @@ use Rattle.desk.specs.Calls.{refused, accepted, openOutcome, tickRefusal, tickO
 use Rattle.numbers.proofs.All.{each-all}
 use Rattle.journal.proofs.Room.{room}
 use Rattle.desk.proofs.Calls as Calls
-use Rattle.why.specs.Why.{rebuilt, whyRefusal, whyReasons}
+use Rattle.why.specs.Why.{rebuilt, whyRefusal, whyOutcome}
 use Rattle.why.proofs.Calls as Why
 use Rattle.why.proofs.Alike.{told-alike}
 use Rattle.demands.specs.Demand3.{Call, Tick, Back, Restart, Drive, survivors, next, opened}
@@ -311,11 +311,11 @@ module _ (card : Card) (L : ℕ) (ok : cardInRange card ≡ true) (s t : Drive) 
       ∙ ap (λ (l : List Sample). desk-at card (records (t .journal)) (length l)) (sym e)
       ∙ sym (w .is)
 
-  pub told-same : whyReasons (s .desk) (s .journal) ≡ whyReasons (t .desk) (t .journal)
+  pub told-same : whyOutcome (s .desk) (s .journal) ≡ whyOutcome (t .desk) (t .journal)
   told-same =
       let n = n-is card L ok s v in
       told-alike (s .desk) (s .journal) (t .journal) (v .long ∙ sym (w .long)) (λ i l. same-records i (omega arith))
-      ∙ ap (λ (d : Desk). whyReasons d (t .journal)) desks-same
+      ∙ ap (λ (d : Desk). whyOutcome d (t .journal)) desks-same
 
   outcomes-same : (c : Call) → outcome s c ≡ outcome t c
   unfolding outcome

@@ -1,5 +1,5 @@
--- Demand 1: every call asks nothing of its caller and returns, whatever is handed over; refused, it returns a number of its list and, from a call on a
--- desk, an answer of zeros and the desk handed in (a desk of zeros at opening), and every lent byte keeps its value.
+-- Demand 1: every call asks nothing of its caller and returns, whatever is handed over; refused, it returns a number of its list and, from a call that
+-- gives back a desk, an answer of zeros and the desk handed in (a desk of zeros at opening), and every lent byte keeps its value.
 -- That the code comes to its end is what the check proves of every function.
 use Prim.Native.Nat.{ℕ, _<_}
 use mathlib.Core.Path.{_≡_}

@@ -1,8 +1,8 @@
 -- Demand 2: an accepted tick gives exactly the answer and the desk of the rules, and a desk in range again; each refusal is given exactly when
 -- the paper says. The same of every other call. The rules are `advance`, a tick; `after`, a fresh state fed so many records; `answers`, the bytes of the
 -- answers. Where a record, an answer, a card or a run lies among bytes is said by record/specs/Record.antt, rules/specs/Answer.antt, file/specs/File.antt.
--- That an answer tells the causes that are held, and how many, is a page of its own, Valve.antt; what an accepted call promises that tells why the valve
--- is open, why/specs/Promise.antt.
+-- That an answer tells the causes that are held, and how many, is a page of its own, Valve.antt; what the call promises that tells why the valve is
+-- open, why/specs/Promise.antt.
 use Prim.Native.Nat.{ℕ, _+_, _-_, _*_, _≤_, _<_}
 use mathlib.Core.Path.{_≡_}
 use mathlib.Core.List.{List, _++_}
@@ -27,7 +27,8 @@ use Rattle.file.specs.Read.{tickCount, drive}
 use Rattle.exercise.specs.Answers.{answers}
 use Rattle.demands.specs.Functions.{Functions}
 use Rattle.demands.specs.Ranges.{DeskFits, freshOf, zeroAnswer}
-use Rattle.demands.specs.Reasons.{SpeedIs, BandIs, ExactlyWhen, openReasons, tickReasons, backReasons, restartReasons, whyReasons, readReasons, exerciseReasons}
+use Rattle.demands.specs.Reasons.{SpeedIs, BandIs, ExactlyWhen}
+use Rattle.demands.specs.Reasons.{openReasons, tickReasons, backReasons, restartReasons, whyReasons, readReasons, exerciseReasons}
 
 -- the record of a sample: v and band exactly as the floats say, the switches as they are
 pub record RecordOf (sample : Sample) (rec : Record) : Type 0 where
@@ -80,8 +81,7 @@ pub record Demand2 (F : Functions) : Type 0 where
       ExactlyWhen (out .refusal) (restartReasons desk)
       × (out .refusal ≡ 0 → Begins (desk .card) out)
   pub why : (desk : Desk) (journal : List ℕ) (reasons : Reasons) (left : List ℕ) → F .tells desk journal reasons left →
-      ExactlyWhen (reasons .refusal) (whyReasons desk journal)
-      × (reasons .refusal ≡ 0 → (left ≡ journal) × Promise desk journal reasons)
+      ExactlyWhen (reasons .refusal) (whyReasons desk journal) × Promise desk journal reasons × (left ≡ journal)
   pub reader : (file : List ℕ) (counts : Counts) (file-left : List ℕ) → F .reads file counts file-left →
       ExactlyWhen (counts .refusal) (readReasons file)
       × (counts .refusal ≡ 0 → (counts .cards ≡ cardCount file) × (counts .runs ≡ runCount file) × (counts .ticks ≡ tickCount file)

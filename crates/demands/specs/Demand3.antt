@@ -15,6 +15,7 @@ use Rattle.demands.specs.Functions.{Functions}
 use Rattle.demands.specs.Ranges.{zeroAnswer}
 use Rattle.demands.specs.Reasons.{BadSpeed, BadPressure, SwitchesFit}
 
+-- why is none of them: it gives back no desk and leaves the journal as it is, by demands 1 and 2
 pub data Call : Type 0 where
   Tick : Sample → Call
   Back : ℕ → Call

@@ -1,5 +1,5 @@
--- The calls of the paper, and of request 1, as relations: that a call may be made (`..-asks`: what it asks of its caller is there), what it may return, and what every lent
--- slice may hold afterwards. The demands are said of any such relations. proofs/Functions.antt has those of our functions and those of
+-- The calls of the paper, and of request 1, as relations: that a call may be made (`..-asks`: what it asks of its caller is there), what it may return,
+-- and what every lent slice may hold afterwards. The demands are said of any such relations. proofs/Functions.antt has those of our functions and those of
 -- the calls that the archive exports, read off their contracts.
 use Prim.Native.Nat.{ℕ}
 use mathlib.Core.List.{List}

@@ -36,7 +36,7 @@ accepted card n tick = record { desk = record { card = card; n = n; state = tick
 unfoldable pub openOutcome : Card → Outcome
 openOutcome card = cond (not (cardInRange card)) (refused noDesk badCard) (begun card)
 
--- 5, 6: whether the desk, with a journal of so many bytes, is fit for a tick or a step back
+-- 5, 6: whether the desk, with a journal of so many bytes, is fit for a tick, a step back or why
 unfoldable pub deskRefusal : Desk → ℕ → ℕ
 deskRefusal desk bytes = cond (not (deskInRange desk)) badDesk (cond (ltb bytes (recordWidth * desk .n)) shortJournal 0)
 

@@ -11,9 +11,9 @@ use Rattle.record.specs.Record.{recordAt}
 use Rattle.record.specs.Sample.{sampleRecord, recordRefusal, sampleRefusal}
 use Rattle.journal.specs.Journal.{capacity, records}
 use Rattle.desk.specs.Calls.{openOutcome, deskRefusal, tickRefusalOf, tickOutcome, tickJournal, backRefusal, backOutcome, restartOutcome}
-use Rattle.causes.specs.Cause.{of}
+use Rattle.causes.specs.Cause.{among}
 use Rattle.same.proofs.Desks.{by-test, sameDesk?}
-use Rattle.why.specs.Why.{reasonOf, began, whyRefusal, whyReasons}
+use Rattle.why.specs.Why.{reasonOf, began, rebuiltRefusal, whyRefusal, whyOutcome}
 use Rattle.examples.specs.Calls.{calls}
 use Rattle.examples.proofs.Rows.{rows-hold}
 use Rattle.examples.proofs.Ranges.{ranges-hold}
@@ -22,5 +22,5 @@ unfoldable pub calls-hold : map (λ row. row .what) calls ≡ map (λ row. row .
 unfolding calls rows-hold ranges-hold
     allBelow firstRefusal u16At written recordAt sampleRecord recordRefusal sampleRefusal capacity records
     openOutcome deskRefusal tickRefusalOf tickOutcome tickJournal backRefusal backOutcome restartOutcome
-    decide lastOf of by-test sameDesk? reasonOf began whyRefusal whyReasons
+    decide lastOf among by-test sameDesk? reasonOf began rebuiltRefusal whyRefusal whyOutcome
 calls-hold = refl

@@ -8,7 +8,7 @@ use Rattle.desk.specs.declared.Outcome.{Outcome}
 use Rattle.journal.specs.Journal.{capacity}
 use Rattle.desk.specs.Calls.{openOutcome, tickRefusalOf, tickOutcome, tickJournal, backOutcome, restartOutcome}
 use Rattle.why.specs.declared.Reasons.{Reasons}
-use Rattle.why.specs.Why.{whyReasons}
+use Rattle.why.specs.Why.{whyOutcome}
 use Rattle.examples.specs.Literals.{cardOf, deskOf, deskK, sampleOf, deskNumbers, answerNumbers, reasonNumbers}
 use Rattle.examples.specs.Rows.{Row}
 
@@ -168,7 +168,7 @@ restarts desk number next = gives (restartOutcome (deskOf desk)) number next sil
 
 -- why: a number, and of each cause its tick and the fields of that tick's record
 abbrev tells : List ℕ → List ℕ → ℕ → List ℕ → Row
-tells desk journal number reasons = record { what = reasonNumbers (whyReasons (deskOf desk) journal); is = number ∷ reasons }
+tells desk journal number reasons = record { what = reasonNumbers (whyOutcome (deskOf desk) journal); is = number ∷ reasons }
 
 -- nothing of a cause that is not held
 abbrev free : List ℕ
@@ -265,7 +265,7 @@ calls =
     ∷ whyRefused (good 3) three 23
     -- 23 for n and for each field of the state
     ∷ record {
-      what = map (λ field. whyReasons (deskOf (set afterRemote field 1)) braked .refusal)
+      what = map (λ field. whyOutcome (deskOf (set afterRemote field 1)) braked .refusal)
           (10 ∷ 11 ∷ 12 ∷ 13 ∷ 14 ∷ 15 ∷ 16 ∷ 17 ∷ 18 ∷ 19 ∷ 20 ∷ 21 ∷ 22 ∷ 23 ∷ 24 ∷ 25 ∷ 26 ∷ 27 ∷ []);
       is = replicate 18 23;
     }

@@ -1,4 +1,5 @@
-// The archive: the calls that a host program links, but for the step back, exercises and why. host/foldharbor.h declares them, and their structs, for C and C++.
+// The archive: the calls that a host program links, but for the step back, why and exercises.
+// host/foldharbor.h declares them, and their structs, for C and C++.
 ghost use mathlib.Core.Path.{_≡_};
 ghost use lib.ListN.{length};
 ghost use Rattle.card.specs.Card.{cardWidth, putCard};

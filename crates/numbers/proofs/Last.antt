@@ -1,4 +1,5 @@
--- The last number from 1 to n that passes a test, by one number more; and that it goes by the test up to n alone. By the definition.
+-- The last number from 1 to n that passes a test, by one number more; and that it goes by the test up to n alone.
+-- By the definition, and by induction on n.
 use Prim.Native.Nat.{ℕ, zero, suc, _+_, _≤_}
 use native.Mathlib.Nat.{le-refl}
 use native.Mathlib.Numerals.{add-one}

@@ -8,7 +8,7 @@ use Rattle.layout.specs.Layout.{u16At}
 use Rattle.card.specs.Card.{cardWidth, cardAt}
 use Rattle.desk.specs.declared.Desk.{Desk}
 use Rattle.desk.specs.Calls.{openOutcome, tickOutcome, tickJournal, backOutcome, restartOutcome}
-use Rattle.why.specs.Why.{whyReasons}
+use Rattle.why.specs.Why.{whyOutcome}
 use Rattle.script.specs.declared.Reply.{Reply}
 use Rattle.script.specs.declared.Reply.the-variants.{Line, Why, BadScript}
 use Rattle.script.specs.Sample.{sampleWidth, sampleAt}
@@ -63,7 +63,7 @@ module _ (desk : Desk) (call journal : List ℕ) where
       (cond (eqb kind tick) (Line (tickOutcome desk (sampleAt call 1) journal))
       (cond (eqb kind stepBack) (Line (backOutcome desk (u16At call 1) journal))
       (cond (eqb kind restart) (Line (restartOutcome desk))
-      (cond (eqb kind why) (Why (whyReasons desk journal))
+      (cond (eqb kind why) (Why (whyOutcome desk journal))
       BadScript))))
 
   -- a tick alone writes to the journal

@@ -13,17 +13,17 @@ use Rattle.card.specs.declared.Card.{Card}
 use Rattle.record.specs.declared.Record.{Record}
 use Rattle.record.specs.Record.{recordInRange}
 use Rattle.causes.specs.Held.{heldIn}
-use Rattle.causes.specs.Cause.{Cause, NZ1, NZ2, NZ3, NZ4, NZ5, of}
+use Rattle.causes.specs.Cause.{Cause, NZ1, NZ2, NZ3, NZ4, NZ5, among}
 use Rattle.rules.specs.declared.AfterTick.{AfterTick}
 use Rattle.rules.proofs.After.{after-same}
 use Rattle.journal.specs.Journal.{records, allInRange}
 use Rattle.desk.specs.declared.Desk.{Desk}
-use Rattle.why.specs.Why.{heldAfter, madeHeld, began, reasonOf, reason, reasonFor, whyRefusal, whyReasons}
+use Rattle.why.specs.Why.{heldAfter, madeHeld, began, reasonOf, reasonAfter, reasonFor, whyRefusal, whyOutcome}
 use Rattle.why.proofs.Began.{began-then}
 
 module _ (card : Card) (H K : ℕ → Record) (cause : Cause) (n : ℕ) (same : (i : ℕ) → i < n → H i ≡ K i) where
   held-same : (m : ℕ) → m ≤ n → heldAfter card H cause m ≡ heldAfter card K cause m
-  held-same m h = ap (λ (a : AfterTick). of cause (heldIn (a .state .causes))) (after-same card H K m (λ i l. same i (omega arith)))
+  held-same m h = ap (λ (a : AfterTick). among cause (heldIn (a .state .causes))) (after-same card H K m (λ i l. same i (omega arith)))
 
   began-same : began card H cause n ≡ began card K cause n
   unfolding began
@@ -31,11 +31,11 @@ module _ (card : Card) (H K : ℕ → Record) (cause : Cause) (n : ℕ) (same : 
       last-same (madeHeld card H cause) (madeHeld card K cause) n
       (λ i l. ap₂ (λ (now before : Bool). now && not before) (held-same i l) (held-same (i - 1) (omega arith)))
 
-  reason-same : reason card H cause n ≡ reason card K cause n
+  reason-same : reasonAfter card H cause n ≡ reasonAfter card K cause n
   unfolding reasonOf
   reason-same = go (heldAfter card H cause n) refl
     where
-      go : (held : Bool) → heldAfter card H cause n ≡ held → reason card H cause n ≡ reason card K cause n
+      go : (held : Bool) → heldAfter card H cause n ≡ held → reasonAfter card H cause n ≡ reasonAfter card K cause n
       go true e =
           let b = began-then card H cause n e in
           let first = b .first in
@@ -53,6 +53,6 @@ module _ (d : Desk) (J K : List ℕ) (long : length J ≡ length K) (same : (i :
   each : (cause : Cause) → reasonFor d J cause ≡ reasonFor d K cause
   each cause = reason-same (d .card) (records J) (records K) cause (d .n) same
 
-  pub told-alike : whyReasons d J ≡ whyReasons d K
-  unfolding whyReasons
+  pub told-alike : whyOutcome d J ≡ whyOutcome d K
+  unfolding whyOutcome
   told-alike = rw (refused-alike, each NZ1, each NZ2, each NZ3, each NZ4, each NZ5)

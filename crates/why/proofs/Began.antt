@@ -1,6 +1,6 @@
 -- The last tick that made a cause held began its present holding, and no other tick did.
 -- By induction on the ticks, of any sequence of yes and no that begins with no; then by step 10: what was not held and is held was triggered.
-use Prim.Native.Nat.{ℕ, zero, suc, _+_, _-_, _≤_, _<_}
+use Prim.Native.Nat.{ℕ, zero, suc, _-_, _≤_, _<_}
 use native.Mathlib.Nat.{le-refl}
 use native.Mathlib.Decide.{decLe}
 use native.Mathlib.Omega.{arith}
@@ -12,12 +12,12 @@ use Rattle.record.specs.declared.Record.{Record}
 use Rattle.causes.specs.declared.Causes.{Causes}
 use Rattle.causes.specs.Held.{heldIn}
 use Rattle.causes.specs.Keeping.{keeps, step10Held}
-use Rattle.causes.specs.Cause.{Cause, NZ1, NZ2, NZ3, NZ4, NZ5, of}
+use Rattle.causes.specs.Cause.{Cause, NZ1, NZ2, NZ3, NZ4, NZ5, among}
 use Rattle.state.specs.Mode.{step1Mode}
 use Rattle.rules.specs.Tick.{triggersIn, releasesIn, heldNext}
 use Rattle.rules.specs.After.{after}
 use Rattle.rules.proofs.Valve.{advance-held}
-use Rattle.why.specs.Why.{heldAfter, madeHeld, began}
+use Rattle.why.specs.Why.{heldAfter, began}
 use Rattle.why.specs.Promise.{triggeredAt, Began}
 
 -- ---- any sequence that begins with no
@@ -73,21 +73,21 @@ made-held true triggered free e n = absurd (true≢false n)
 made-held false true free e n = refl
 made-held false false free e n = absurd (false≢true e)
 
-of-held : (cause : Cause) (held triggered free : Causes)
-    → of cause (step10Held held triggered free) ≡ keeps (of cause held) (of cause triggered) (of cause free)
-unfolding of step10Held
-of-held NZ1 held triggered free = refl
-of-held NZ2 held triggered free = refl
-of-held NZ3 held triggered free = refl
-of-held NZ4 held triggered free = refl
-of-held NZ5 held triggered free = refl
+among-held : (cause : Cause) (held triggered free : Causes)
+    → among cause (step10Held held triggered free) ≡ keeps (among cause held) (among cause triggered) (among cause free)
+unfolding among step10Held
+among-held NZ1 held triggered free = refl
+among-held NZ2 held triggered free = refl
+among-held NZ3 held triggered free = refl
+among-held NZ4 held triggered free = refl
+among-held NZ5 held triggered free = refl
 
 module _ (card : Card) (H : ℕ → Record) (cause : Cause) where
   abbrev held : ℕ → Bool
   held n = heldAfter card H cause n
 
-  none-held : (c : Cause) → of c (heldIn 0) ≡ false
-  unfolding of heldIn
+  none-held : (c : Cause) → among c (heldIn 0) ≡ false
+  unfolding among heldIn
   none-held NZ1 = refl
   none-held NZ2 = refl
   none-held NZ3 = refl
@@ -104,9 +104,9 @@ module _ (card : Card) (H : ℕ → Record) (cause : Cause) where
       let s = step1Mode (after card H n .state) (H n) in
       let triggers = triggersIn card s (H n) in
       let releases = releasesIn card s (H n) in
-      let step = ap (of cause) (advance-held card (after card H n .state) (H n)) ∙ of-held cause (heldIn (s .causes)) triggers releases in
+      let step = ap (among cause) (advance-held card (after card H n .state) (H n)) ∙ among-held cause (heldIn (s .causes)) triggers releases in
       let z : suc n - 1 ≡ n = omega arith in
-      rw z (made-held (held n) (of cause triggers) (of cause releases) (sym step ∙ now) before)
+      rw z (made-held (held n) (among cause triggers) (among cause releases) (sym step ∙ now) before)
 
   fired-at : (s : ℕ) → 1 ≤ s → held s ≡ true → held (s - 1) ≡ false → triggeredAt card H cause s ≡ true
   fired-at zero h now before = absurd (omega arith)

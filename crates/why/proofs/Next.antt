@@ -7,7 +7,7 @@ use native.Mathlib.Omega.{arith}
 use Rattle.numbers.proofs.Last.{last-next}
 use Rattle.card.specs.declared.Card.{Card}
 use Rattle.record.specs.declared.Record.{Record}
-use Rattle.causes.specs.Cause.{Cause, NZ1, NZ2, NZ3, NZ4, NZ5, of}
+use Rattle.causes.specs.Cause.{Cause, NZ1, NZ2, NZ3, NZ4, NZ5, among}
 use Rattle.rules.specs.After.{after}
 use Rattle.journal.specs.Journal.{records}
 use Rattle.numbers.specs.Last.{lastOf}
@@ -27,7 +27,7 @@ module _ (card : Card) (journal : List ℕ) where
   pub starts-next : (n : ℕ)
       → startsAfter card journal (n + 1)
       ≡ startsAt (n + 1) (after card (records journal) n .state .causes) (after card (records journal) (n + 1) .state .causes) (startsAfter card journal n)
-  unfolding startsAfter startsAt of
+  unfolding startsAfter startsAt among
   starts-next n =
       let H = records journal in
       rw (began-next card H NZ1 n, began-next card H NZ2 n, began-next card H NZ3 n, began-next card H NZ4 n, began-next card H NZ5 n)

@@ -12,7 +12,7 @@ use Rattle.causes.specs.Cause.{Cause, NZ1, NZ2, NZ3, NZ4, NZ5}
 use Rattle.journal.specs.Journal.{records}
 use Rattle.desk.specs.declared.Desk.{Desk}
 use Rattle.why.specs.declared.Reason.{Reason}
-use Rattle.why.specs.Why.{noReason, refused, reasonOf, reasonFor, heldAfter, reasons, whyRefusal, whyReasons}
+use Rattle.why.specs.Why.{noReason, refused, reasonOf, reasonFor, heldAfter, allReasons, whyRefusal, whyOutcome}
 use Rattle.why.specs.Promise.{given, Right, Promise}
 use Rattle.why.proofs.Began.{began-then, began-once}
 use Rattle.why.proofs.Calls.{why-taken, held-is, why-yes, why-no, why-number}
@@ -27,7 +27,7 @@ given-none NZ4 number = refl
 given-none NZ5 number = refl
 
 module _ (d : Desk) (J : List ℕ) where
-  given-each : (cause : Cause) → given cause (reasons d J) ≡ reasonFor d J cause
+  given-each : (cause : Cause) → given cause (allReasons d J) ≡ reasonFor d J cause
   unfolding given
   given-each NZ1 = refl
   given-each NZ2 = refl
@@ -35,7 +35,7 @@ module _ (d : Desk) (J : List ℕ) where
   given-each NZ4 = refl
   given-each NZ5 = refl
 
-  given-is : (cause : Cause) → whyRefusal d J ≡ 0 → given cause (whyReasons d J) ≡ reasonFor d J cause
+  given-is : (cause : Cause) → whyRefusal d J ≡ 0 → given cause (whyOutcome d J) ≡ reasonFor d J cause
   given-is cause e = ap (given cause) (why-yes d J e) ∙ given-each cause
 
   -- a cause that is held after the last tick, and one that is not
@@ -55,7 +55,7 @@ module _ (d : Desk) (J : List ℕ) where
   by-tick cause true e n = right cause e
   by-tick cause false e n = absurd (n (ap (λ (x : Reason). x .tick) (free cause e)))
 
-  accepted : whyRefusal d J ≡ 0 → Promise d J (whyReasons d J)
+  accepted : whyRefusal d J ≡ 0 → Promise d J (whyOutcome d J)
   accepted e =
       let taken = why-taken d J e in record {
         right = λ cause n. rw (given-is cause e) (by-tick cause _ refl (rw (given-is cause e) at n));
@@ -65,10 +65,10 @@ module _ (d : Desk) (J : List ℕ) where
         refused = λ n. absurd (n (why-number d J ∙ e));
       }
 
-pub promised : (d : Desk) (J : List ℕ) → Promise d J (whyReasons d J)
+pub promised : (d : Desk) (J : List ℕ) → Promise d J (whyOutcome d J)
 promised d J = go (ℕ-discrete (whyRefusal d J) 0)
   where
-    go : Dec (whyRefusal d J ≡ 0) → Promise d J (whyReasons d J)
+    go : Dec (whyRefusal d J ≡ 0) → Promise d J (whyOutcome d J)
     go (yes e) = accepted d J e
     go (no n) = rw (why-no d J n) (record {
       right = λ cause h. absurd (h (ap (λ (x : Reason). x .tick) (given-none cause _)));

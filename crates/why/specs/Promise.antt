@@ -7,7 +7,7 @@ use mathlib.Core.List.{List}
 use Rattle.card.specs.declared.Card.{Card}
 use Rattle.record.specs.declared.Record.{Record}
 use Rattle.causes.specs.Held.{heldIn}
-use Rattle.causes.specs.Cause.{Cause, NZ1, NZ2, NZ3, NZ4, NZ5, of}
+use Rattle.causes.specs.Cause.{Cause, NZ1, NZ2, NZ3, NZ4, NZ5, among}
 use Rattle.state.specs.Mode.{step1Mode}
 use Rattle.rules.specs.Tick.{triggersIn}
 use Rattle.rules.specs.After.{after}
@@ -17,19 +17,19 @@ use Rattle.why.specs.declared.Reason.{Reason}
 use Rattle.why.specs.declared.Reasons.{Reasons}
 use Rattle.why.specs.Why.{noReason, heldAfter}
 
-module _ (card : Card) (records : ℕ → Record) (cause : Cause) where
+module _ (card : Card) (H : ℕ → Record) (cause : Cause) where
   -- a tick triggers the cause, in the state that the ticks before it left
   abbrev pub triggeredAt : ℕ → Bool
   triggeredAt tick =
-      of cause (triggersIn card (step1Mode (after card records (tick - 1) .state) (records (tick - 1))) (records (tick - 1)))
+      among cause (triggersIn card (step1Mode (after card H (tick - 1) .state) (H (tick - 1))) (H (tick - 1)))
 
   -- of n ticks, this one began the present holding
   pub record Began (n tick : ℕ) : Type 0 where
     pub first : 1 ≤ tick
     pub last : tick ≤ n
     pub triggered : triggeredAt tick ≡ true
-    pub not-before : heldAfter card records cause (tick - 1) ≡ false
-    pub ever-since : (t : ℕ) → tick ≤ t → t ≤ n → heldAfter card records cause t ≡ true
+    pub not-before : heldAfter card H cause (tick - 1) ≡ false
+    pub ever-since : (t : ℕ) → tick ≤ t → t ≤ n → heldAfter card H cause t ≡ true
 
 -- what is given for a cause
 unfoldable pub given : Cause → Reasons → Reason
@@ -41,7 +41,7 @@ given NZ5 reasons = reasons .nz5
 
 module _ (desk : Desk) (journal : List ℕ) where
   abbrev pub holds : Cause → Bool
-  holds cause = of cause (heldIn (desk .state .causes))
+  holds cause = among cause (heldIn (desk .state .causes))
 
   pub record Right (cause : Cause) (reason : Reason) : Type 0 where
     pub began : Began (desk .card) (records journal) cause (desk .n) (reason .tick)

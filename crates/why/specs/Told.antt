@@ -1,9 +1,8 @@
 -- What one pass over the records finds, in the structs that the code hands on.
 use Prim.Native.Nat.{ℕ, _*_, _≤_}
-use mathlib.Core.Bool.{Bool, not, _&&_, cond, decide}
+use mathlib.Core.Bool.{Bool, not, _&&_, cond}
 use mathlib.Core.List.{List}
-use lib.Dec.{eqb}
-use Rattle.refusal.specs.Refusal.{badRecord, valveClosed, otherDesk, firstRefusal}
+use Rattle.refusal.specs.Refusal.{badRecord, firstRefusal}
 use Rattle.card.specs.declared.Card.{Card}
 use Rattle.record.specs.declared.Record.{Record}
 use Rattle.record.specs.Record.{recordWidth}
@@ -14,11 +13,10 @@ use Rattle.state.specs.State.{freshState}
 use Rattle.rules.specs.After.{after}
 use Rattle.journal.specs.Journal.{records, allInRange}
 use Rattle.desk.specs.declared.Desk.{Desk}
-use Rattle.same.proofs.Desks.{sameDesk?}
 use Rattle.why.specs.declared.Starts.{Starts}
 use Rattle.why.specs.declared.Told.{Told}
 use Rattle.why.specs.declared.Reasons.{Reasons}
-use Rattle.why.specs.Why.{began, reasonOf}
+use Rattle.why.specs.Why.{began, reasonOf, rebuiltRefusal}
 
 abbrev pub noStarts : Starts
 noStarts = record { nz1 = 0; nz2 = 0; nz3 = 0; nz4 = 0; nz5 = 0 }
@@ -27,13 +25,13 @@ abbrev pub startAt : ℕ → Bool → Bool → ℕ → ℕ
 startAt tick was is start = cond (is && not was) tick start
 
 unfoldable pub startsAt : ℕ → ℕ → ℕ → Starts → Starts
-startsAt tick before after starts =
+startsAt tick was is starts =
     record {
-      nz1 = startAt tick (heldIn before .nz1) (heldIn after .nz1) (starts .nz1);
-      nz2 = startAt tick (heldIn before .nz2) (heldIn after .nz2) (starts .nz2);
-      nz3 = startAt tick (heldIn before .nz3) (heldIn after .nz3) (starts .nz3);
-      nz4 = startAt tick (heldIn before .nz4) (heldIn after .nz4) (starts .nz4);
-      nz5 = startAt tick (heldIn before .nz5) (heldIn after .nz5) (starts .nz5);
+      nz1 = startAt tick (heldIn was .nz1) (heldIn is .nz1) (starts .nz1);
+      nz2 = startAt tick (heldIn was .nz2) (heldIn is .nz2) (starts .nz2);
+      nz3 = startAt tick (heldIn was .nz3) (heldIn is .nz3) (starts .nz3);
+      nz4 = startAt tick (heldIn was .nz4) (heldIn is .nz4) (starts .nz4);
+      nz5 = startAt tick (heldIn was .nz5) (heldIn is .nz5) (starts .nz5);
     }
 
 -- a record out of range
@@ -61,8 +59,7 @@ module _ (card : Card) (journal : List ℕ) where
 unfoldable pub retoldRefusal : Desk → Told → ℕ
 retoldRefusal desk told =
     firstRefusal (told .refusal)
-    (cond (not (decide (sameDesk? desk (record { card = desk .card; n = desk .n; state = told .state })))) otherDesk
-    (cond (eqb (desk .state .causes) 0) valveClosed 0))
+    (rebuiltRefusal desk (record { card = desk .card; n = desk .n; state = told .state }))
 
 unfoldable pub startOf : Cause → Starts → ℕ
 startOf NZ1 starts = starts .nz1
@@ -77,12 +74,12 @@ pub record StartFits (tick bytes : ℕ) : Type 0 where
   pub last : recordWidth * tick ≤ bytes
 
 unfoldable pub reasonsOf : (ℕ → Record) → Causes → Starts → Reasons
-reasonsOf records held starts =
+reasonsOf H held starts =
     record {
       refusal = 0;
-      nz1 = reasonOf records (held .nz1) (starts .nz1);
-      nz2 = reasonOf records (held .nz2) (starts .nz2);
-      nz3 = reasonOf records (held .nz3) (starts .nz3);
-      nz4 = reasonOf records (held .nz4) (starts .nz4);
-      nz5 = reasonOf records (held .nz5) (starts .nz5);
+      nz1 = reasonOf H (held .nz1) (starts .nz1);
+      nz2 = reasonOf H (held .nz2) (starts .nz2);
+      nz3 = reasonOf H (held .nz3) (starts .nz3);
+      nz4 = reasonOf H (held .nz4) (starts .nz4);
+      nz5 = reasonOf H (held .nz5) (starts .nz5);
     }

@@ -5,9 +5,9 @@ ghost use Prim.Native.Nat.{_*_, _≤_};
 ghost use lib.ListN.{length};
 ghost use Rattle.card.specs.Card.{CardRanges};
 ghost use Rattle.record.specs.Record.{recordWidth};
-ghost use Rattle.causes.specs.Cause.{Cause, of};
+ghost use Rattle.causes.specs.Cause.{Cause, among};
 ghost use Rattle.journal.specs.Journal.{records};
-ghost use Rattle.why.specs.Why.{noReason, refused, reasonOf, whyReasons};
+ghost use Rattle.why.specs.Why.{noReason, refused, reasonOf, whyOutcome};
 ghost use Rattle.why.specs.Told.{noStarts, startAt, startsAt, notTold, retold, retoldRefusal, startOf, StartFits, reasonsOf};
 use card::Card;
 use causes::Causes;
@@ -198,7 +198,7 @@ fn reason_of(journal: &[u8], held: bool, start: u16) -> Reason
 
 // Why each cause is held, by the starts.
 fn reasons_of(journal: &[u8], held: Causes, starts: Starts) -> Reasons
-    requires { ⌜ ((cause : Cause) → of cause held ≡ true → StartFits (startOf cause starts) (length (now journal))) ⌝ }
+    requires { ⌜ ((cause : Cause) → among cause held ≡ true → StartFits (startOf cause starts) (length (now journal))) ⌝ }
     ensures { λ x. ⌜ x ≡ reasonsOf (records (now (journal .entry))) held starts ⌝ }
 {
     Reasons {
@@ -212,7 +212,7 @@ fn reasons_of(journal: &[u8], held: Causes, starts: Starts) -> Reasons
 }
 
 pub fn why(desk: Desk, journal: &[u8]) -> Reasons
-    ensures { λ x. ⌜ x ≡ whyReasons desk (now (journal .entry)) ⌝ }
+    ensures { λ x. ⌜ x ≡ whyOutcome desk (now (journal .entry)) ⌝ }
 {
     let first = desk::desk_refusal(desk, journal.len());
     if first != 0 {

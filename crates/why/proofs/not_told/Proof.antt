@@ -1,5 +1,4 @@
 -- `not_told` meets its contract: the fresh state and no starts, by their own contracts.
-use Rattle.why.specs.Told.{notTold}
 use borrow.Author.Needs.{needs}
 use Rattle.why.proofs.not_told.Statement.{statement}
 use Rattle.why.proofs.not_told.Tie as tie

@@ -1,7 +1,7 @@
 -- `retold` makes one pass. The loop's invariant: the records so far are in range, the state is that after them, the starts are those after them.
 -- The measure is how many are left.
 use Prim.Native.Nat.{ℕ, _+_, _≤_, _-_}
-use mathlib.Core.Path.{_≡_, refl, sym, ap, ap₂, _∙_}
+use mathlib.Core.Path.{_≡_, sym, ap, ap₂, _∙_}
 use mathlib.Core.Bool.{true, false}
 use mathlib.Core.List.{List}
 use native.Mathlib.Omega.{arith}
