@@ -1,4 +1,5 @@
 -- `put_reason` meets its contract: of a cause that is not held no byte (`put-none`), else its nine numbers by the contract of `put_spaced`.
+use mathlib.Core.Path.{_≡_}
 use denote.Ref.{now}
 use borrow.Author.Tests.{eq-eqb, ne-eqb}
 use Rattle.line.specs.Line.{spaced, reasonNumbers}
@@ -12,7 +13,8 @@ unfolding spaced reasonNumbers
 returns c =
     let a = c .before .before .before .args in
     let p = put-none (now (a .out)) (a .at) in
-    simp (eq-eqb _ _ (c .if1 .taken)) ((p .place, search needs), p .list)
+    let free : a .reason .tick ≡ 0 = c .if1 .taken in
+    simp (eq-eqb _ _ free) ((p .place, search needs), p .list)
 
 cast-t10 : tie.Need-cast-t10
 cast-t10 c = search needs
