@@ -11,7 +11,9 @@ same-state-requires : tie.Need-same-state-requires
 same-state-requires c κs = search needs
 
 returns : tie.Need-returns
-returns c = same-desk _ _ _ _ (c .before .before .before .same-card .ensures) (c .same-state .ensures)
+returns c =
+    let at-card = c .before .before .before in
+    same-desk _ _ _ _ (at-card .same-card .ensures) (c .same-state .ensures)
 
 pub same-desk-spec : {M : Type 1} → statement M
 same-desk-spec = tie.close (tie.spec same-card-requires same-state-requires returns)

@@ -11,7 +11,9 @@ same-curve-requires : tie.Need-same-curve-requires
 same-curve-requires c κs = search needs
 
 returns : tie.Need-returns
-returns c = same-signal _ _ _ _ (c .before .before .before .same-codes .ensures) (c .before .before .same-curve .ensures)
+returns c =
+    let at-curve = c .before .before in
+    same-signal _ _ _ _ (at-curve .before .same-codes .ensures) (at-curve .same-curve .ensures)
 
 pub same-signal-spec : {M : Type 1} → statement M
 same-signal-spec = tie.close (tie.spec same-codes-requires same-curve-requires returns)

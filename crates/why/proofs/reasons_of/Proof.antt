@@ -22,7 +22,9 @@ reason-of-requires-4 c κs = let at-nz2 = c .before .before in at-nz2 .before .b
 
 reason-of-requires-5 : tie.Need-reason-of-requires-5
 unfolding among startOf
-reason-of-requires-5 c κs = let at-nz2 = c .before .before .before in at-nz2 .before .before .pre NZ5
+reason-of-requires-5 c κs =
+    let at-nz2 = c .before .before .before in
+    at-nz2 .before .before .pre NZ5
 
 returns : tie.Need-returns
 unfolding reasonsOf

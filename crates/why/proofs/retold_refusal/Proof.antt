@@ -22,21 +22,24 @@ unfolding retoldRefusal rebuiltRefusal
 returns-2 c =
     let at-same = c .before .before in
     let other = sym (decided (sameDesk? _ _) _ (at-same .same-desk .ensures)) ∙ not-true _ (c .if2 .taken) in
-    simp (at-same .before .before .before .if1 .left, first-zero, other)
+    let passed = at-same .before .before .before in
+    simp (passed .if1 .left, first-zero, other)
 
 returns-3 : tie.Need-returns-3
 unfolding retoldRefusal rebuiltRefusal
 returns-3 c =
     let at-same = c .before .before .before in
     let same = sym (decided (sameDesk? _ _) _ (at-same .same-desk .ensures)) ∙ not-false _ (c .before .if2 .left) in
-    simp (at-same .before .before .before .if1 .left, first-zero, same, c .if3 .taken)
+    let passed = at-same .before .before .before in
+    simp (passed .if1 .left, first-zero, same, c .if3 .taken)
 
 returns-4 : tie.Need-returns-4
 unfolding retoldRefusal rebuiltRefusal
 returns-4 c =
     let at-same = c .before .before .before in
     let same = sym (decided (sameDesk? _ _) _ (at-same .same-desk .ensures)) ∙ not-false _ (c .before .if2 .left) in
-    simp (at-same .before .before .before .if1 .left, first-zero, same, c .if3 .left)
+    let passed = at-same .before .before .before in
+    simp (passed .if1 .left, first-zero, same, c .if3 .left)
 
 pub retold-refusal-spec : {M : Type 1} → statement M
 retold-refusal-spec = tie.close (tie.spec returns same-desk-requires returns-2 returns-3 returns-4)
