@@ -50,7 +50,7 @@ pub record DeskFits (desk : Desk) : Type 0 where
   -- V0
   pub curve-start : desk .state .signal .curve .start ≤ 2500
   -- c
-  pub curve-age : desk .state .signal .curve .age ≤ 5000
+  pub curve-driven : desk .state .signal .curve .driven ≤ 6250000
   -- M
   pub man-speed : desk .state .signal .man ≤ 2500
   -- w
@@ -78,7 +78,7 @@ bareDesk card mode = record {
     buttons = 0;
     signal = record {
       codes = record { last = 0; interrupted = 0; gap = 0; raise = 0 };
-      curve = record { start = 0; age = 0; prompted = 0 };
+      curve = record { start = 0; driven = 0; prompted = 0 };
       man = 0;
     };
     prompt = record { ticks = 0; kind = 0 };

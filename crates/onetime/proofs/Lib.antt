@@ -1,2 +1,3 @@
 pub mod Ranges
+pub mod Squares
 pub mod Keeps

@@ -1,12 +1,13 @@
 -- Step 8: one-time vigilance.
-use Prim.Native.Nat.{ℕ, _+_}
+use Prim.Native.Nat.{ℕ, _+_, _*_}
 use mathlib.Core.Bool.{Bool, not, _&&_, _||_, cond}
 use lib.Dec.{ltb, leb, eqb}
 use Rattle.card.specs.declared.Card.{Card}
 use Rattle.card.specs.Card.{beyond}
 use Rattle.record.specs.declared.Keys.{Keys}
 use Rattle.signal.specs.declared.Curve.{Curve}
-use Rattle.signal.specs.Speed.{curveRuns, curveValue}
+use Rattle.signal.specs.Value.{curveValue}
+use Rattle.signal.specs.Speed.{curveRuns}
 use Rattle.onetime.specs.declared.Prompt.{Prompt}
 use Rattle.onetime.specs.declared.OneTimeStep.{OneTimeStep}
 
@@ -14,9 +15,9 @@ use Rattle.onetime.specs.declared.OneTimeStep.{OneTimeStep}
 unfoldable pub lead : Card → ℕ
 lead card = cond (leb (card .set) 1000) 150 100
 
--- D(a): v exceeds the curve's value at age a by more than the tolerance
+-- D: v exceeds the curve's value at E by more than the tolerance. An age means E plus v times the ticks ahead
 unfoldable pub exceeds : Card → Curve → ℕ → ℕ → ℕ → Bool
-exceeds card curve t v age = beyond card (curveValue card curve t age) v
+exceeds card curve t v driven = beyond card (curveValue card curve t driven) v
 
 -- u is above 0: of the old one in step 8, of the new one in the marks
 abbrev pub prompting : Prompt → Bool
@@ -35,13 +36,13 @@ promptStays keys old = prompting old && not (keys .vigilance) && not (expires ol
 
 -- curve, t: the curve and T as steps 2 to 5 leave them; begins: the curve began this tick
 module _ (card : Card) (curve : Curve) (t v : ℕ) where
-  -- w = 0 and D(c + R)
+  -- w = 0 and D at E + v·R
   unfoldable pub dueAhead : Bool
-  dueAhead = eqb (curve .prompted) 0 && exceeds card curve t v (curve .age + lead card)
+  dueAhead = eqb (curve .prompted) 0 && exceeds card curve t v (curve .driven + v * lead card)
 
-  -- the curve began this tick, not D(99 + R), and v > T + tolerance
+  -- the curve began this tick, not D at v·(99 + R), and v > T + tolerance
   unfoldable pub dueAtStart : Bool → Bool
-  dueAtStart begins = begins && not (exceeds card curve t v (99 + lead card)) && beyond card t v
+  dueAtStart begins = begins && not (exceeds card curve t v (v * (99 + lead card))) && beyond card t v
 
 module _ (card : Card) (curve : Curve) (begins : Bool) (t v : ℕ) (keys : Keys) (old : Prompt) where
   -- u was 0 and a curve runs

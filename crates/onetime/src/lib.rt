@@ -3,7 +3,7 @@ ghost use mathlib.Core.Path.{_≡_};
 ghost use Prim.Native.Nat.{_≤_};
 ghost use Rattle.card.specs.Card.{CardRanges};
 ghost use Rattle.reading.specs.Speed.{topSpeed};
-ghost use Rattle.signal.specs.Ranges.{CurveRanges};
+ghost use Rattle.signal.specs.Ranges.{farthestAhead, CurveRanges};
 ghost use Rattle.onetime.specs.Ranges.{PromptRanges, OneTimeStepRanges, promptInRange};
 ghost use Rattle.onetime.specs.OneTime.{lead, exceeds, dueAhead, dueAtStart, step8OneTime};
 use card::Card;
@@ -40,7 +40,7 @@ pub fn prompt_in_range(prompt: Prompt) -> bool
     (prompt.ticks <= MOST_PROMPT) & (prompt.kind <= 1)
 }
 
-fn lead(card: Card) -> u16
+fn lead(card: Card) -> u32
     ensures { λ x. ⌜ (x ≡ lead card) × (x ≤ 150) ⌝ }
 {
     if card.set <= 1000 {
@@ -49,33 +49,38 @@ fn lead(card: Card) -> u16
     100
 }
 
-fn exceeds(card: Card, curve: Curve, t: u16, v: u16, age: u16) -> bool
-    requires { ⌜ CardRanges card × CurveRanges curve × (t ≤ topSpeed) ⌝ }
-    ensures { λ x. ⌜ x ≡ exceeds card curve t v age ⌝ }
+// Compared by squares, so that no root is needed.
+fn exceeds(card: Card, curve: Curve, t: u16, v: u16, driven: u32) -> bool
+    requires { ⌜ CardRanges card × CurveRanges curve × (t ≤ topSpeed) × (v ≤ topSpeed) × (driven ≤ farthestAhead) ⌝ }
+    ensures { λ x. ⌜ x ≡ exceeds card curve t v driven ⌝ }
 {
-    signal::curve_value(card, curve, t, age) + card.tolerance < v
+    if v <= card.tolerance {
+        return false;
+    }
+    let bound = signal::curve_bound(card, curve, t, driven);
+    bound < signal::five_squares(v - card.tolerance)
 }
 
 // Step 8, with a curve: whether the prompt ahead of the curve is due.
 fn due_ahead(card: Card, curve: Curve, t: u16, v: u16) -> bool
-    requires { ⌜ CardRanges card × CurveRanges curve × (t ≤ topSpeed) ⌝ }
+    requires { ⌜ CardRanges card × CurveRanges curve × (t ≤ topSpeed) × (v ≤ topSpeed) ⌝ }
     ensures { λ x. ⌜ x ≡ dueAhead card curve t v ⌝ }
 {
     if curve.prompted == 0 {
         let lead = lead(card);
-        return exceeds(card, curve, t, v, curve.age + lead);
+        return exceeds(card, curve, t, v, curve.driven + (v as u32) * lead);
     }
     false
 }
 
 // Step 8, with a curve: whether the prompt at the curve's start is due.
 fn due_at_start(card: Card, curve: Curve, begins: bool, t: u16, v: u16) -> bool
-    requires { ⌜ CardRanges card × CurveRanges curve × (t ≤ topSpeed) ⌝ }
+    requires { ⌜ CardRanges card × CurveRanges curve × (t ≤ topSpeed) × (v ≤ topSpeed) ⌝ }
     ensures { λ x. ⌜ x ≡ dueAtStart card curve t v begins ⌝ }
 {
     if begins {
         let lead = lead(card);
-        let late = exceeds(card, curve, t, v, 99 + lead);
+        let late = exceeds(card, curve, t, v, (v as u32) * (99 + lead));
         return !late & (t + card.tolerance < v);
     }
     false
@@ -91,7 +96,7 @@ pub fn step_8_one_time(
     keys: Keys,
     prompt: Prompt,
 ) -> OneTimeStep
-    requires { ⌜ CardRanges card × CurveRanges curve × (t ≤ topSpeed) × PromptRanges prompt ⌝ }
+    requires { ⌜ CardRanges card × CurveRanges curve × (t ≤ topSpeed) × (v ≤ topSpeed) × PromptRanges prompt ⌝ }
     ensures { λ x. ⌜ (x ≡ step8OneTime card curve begins t v keys prompt) × OneTimeStepRanges x ⌝ }
 {
     if 0 < prompt.ticks {

@@ -91,7 +91,7 @@ module _ (card : Card) (state : State) (reading : Record) where
       codes = signalIn .signal .codes;
       curve = record {
         start = signalIn .signal .curve .start;
-        age = signalIn .signal .curve .age;
+        driven = signalIn .signal .curve .driven;
         prompted = oneTimeIn .prompted;
       };
       man = signalIn .signal .man;

@@ -203,7 +203,7 @@ fn state_next(card: Card, state: State, reading: Record, findings: Findings) -> 
             codes: codes,
             curve: Curve {
                 start: findings.signal.signal.curve.start,
-                age: findings.signal.signal.curve.age,
+                driven: findings.signal.signal.curve.driven,
                 prompted: findings.onetime.prompted,
             },
             man: findings.signal.signal.man,

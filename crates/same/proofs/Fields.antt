@@ -51,9 +51,9 @@ pub same-codes : (a b : Codes)
 same-codes a b = (λ t. let e : codes a ≡ codes b = search (simp (and-iff, eqb-iff) at t) in e, λ e. rw e (simp eqb-self))
 
 abbrev curve : Curve → Curve
-curve x = record { start = x .start; age = x .age; prompted = x .prompted }
+curve x = record { start = x .start; driven = x .driven; prompted = x .prompted }
 
-pub same-curve : (a b : Curve) → ((eqb (a .start) (b .start) && eqb (a .age) (b .age) && eqb (a .prompted) (b .prompted)) ≡ true) ↔ (a ≡ b)
+pub same-curve : (a b : Curve) → ((eqb (a .start) (b .start) && eqb (a .driven) (b .driven) && eqb (a .prompted) (b .prompted)) ≡ true) ↔ (a ≡ b)
 same-curve a b = (λ t. let e : curve a ≡ curve b = search (simp (and-iff, eqb-iff) at t) in e, λ e. rw e (simp eqb-self))
 
 abbrev prompt : Prompt → Prompt

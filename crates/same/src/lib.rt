@@ -35,7 +35,7 @@ fn same_codes(a: Codes, b: Codes) -> bool
 fn same_curve(a: Curve, b: Curve) -> bool
     ensures { λ x. ⌜ (x ≡ true) ↔ (a ≡ b) ⌝ }
 {
-    (a.start == b.start) & (a.age == b.age) & (a.prompted == b.prompted)
+    (a.start == b.start) & (a.driven == b.driven) & (a.prompted == b.prompted)
 }
 
 fn same_signal(a: Signal, b: Signal) -> bool

@@ -15,41 +15,41 @@ use Rattle.record.specs.declared.Keys.{Keys}
 use Rattle.record.specs.Record.{RecordRanges}
 use Rattle.signal.specs.declared.Curve.{Curve}
 use Rattle.signal.specs.declared.Signal.{Signal}
-use Rattle.signal.specs.Ranges.{CurveRanges, SignalRanges, CurveStepRanges, SignalStepRanges, oldestAge}
-use Rattle.signal.specs.Speed.{curveValue, signalSpeed}
+use Rattle.signal.specs.Ranges.{CurveRanges, SignalRanges, CurveStepRanges, SignalStepRanges, farthest}
+use Rattle.signal.specs.Speed.{signalSpeed}
 use Rattle.signal.specs.NewCode.{oldSpeed, manByCode, curveByCode}
 use Rattle.codes.specs.Ranges.{CodesRanges}
 use Rattle.codes.specs.Plus.{codesNext}
 use Rattle.codes.proofs.Keeps.{target-most, codes-next-ranges}
 use Rattle.signal.specs.Man.{step4Man}
-use Rattle.signal.specs.Curve.{ageNow, curveHolds, curveAged, manStarted, step5Curve}
+use Rattle.signal.specs.Curve.{drivenNow, curveHolds, curveNow, manNow, step5Curve}
 use Rattle.signal.specs.Steps.{targetNow, curveAndMan, steps2To6}
-use Rattle.signal.proofs.Spent.{unspent}
+use Rattle.signal.proofs.Value.{value-most, unspent}
 
 pub signal-speed-most : (card : Card) (curve : Curve) (man t : ℕ) → CurveRanges curve → man ≤ topSpeed → t ≤ topSpeed
     → signalSpeed card curve man t ≤ topSpeed
-unfolding signalSpeed curveValue
-signal-speed-most card curve man t good p q = simp most-iff (omega arith)
+unfolding signalSpeed
+signal-speed-most card curve man t good p q = simp most-iff (omega (arith, value-most card curve t (curve .driven)))
 
 pub step-4-man-most : (was now : ℕ) (unchanged : Bool) (t v : ℕ) → now ≤ topSpeed → step4Man was now unchanged t v ≤ topSpeed
 unfolding step4Man
 step-4-man-most was now unchanged t v p = simp most-iff (omega arith)
 
-module _ (card : Card) (curve : Curve) (begins : Bool) (t : ℕ) (k : Keys) (card-good : CardRanges card) (good : CurveRanges curve) where
+module _ (card : Card) (curve : Curve) (begins : Bool) (t v : ℕ) (k : Keys) (card-good : CardRanges card) (good : CurveRanges curve) where
   -- a curve that goes on is not spent
-  young : curveHolds card curve begins t ≡ true → ageNow curve begins ≤ oldestAge
+  near : curveHolds card curve begins t v ≡ true → drivenNow curve begins v ≤ farthest
   unfolding curveHolds
-  young h =
+  near h =
       let f = simp (and-iff, not-iff) at h in
-      omega (arith, unspent card curve t (ageNow curve begins) card-good good (eqb-false _ _ (f .1)))
+      omega (arith, unspent card curve t (drivenNow curve begins v) card-good good (eqb-false _ _ (f .1)))
 
-  curve-aged-ranges : CurveRanges (curveAged card curve begins t k)
-  unfolding curveAged
-  curve-aged-ranges = simp (cond-iff CurveRanges, and-iff) (omega (arith, young))
+  curve-now-ranges : CurveRanges (curveNow card curve begins t v k)
+  unfolding curveNow
+  curve-now-ranges = simp (cond-iff CurveRanges, and-iff) (omega (arith, near))
 
-  pub step-5-curve-ranges : (man v : ℕ) → man ≤ topSpeed → v ≤ topSpeed → CurveStepRanges (step5Curve card curve begins t k man v)
-  unfolding manStarted
-  step-5-curve-ranges man v p q = record { curve = curve-aged-ranges; man-most = simp most-iff (omega arith) }
+  pub step-5-curve-ranges : (man : ℕ) → man ≤ topSpeed → v ≤ topSpeed → CurveStepRanges (step5Curve card curve begins t v k man)
+  unfolding manNow
+  step-5-curve-ranges man p q = record { curve = curve-now-ranges; man-most = simp most-iff (omega arith) }
 
 module _ (card : Card) (s : Signal) (r : Record) (card-good : CardRanges card) (good : SignalRanges s) (fits : RecordRanges r) where
   pub man-by-code-most : manByCode card s r ≤ topSpeed
@@ -72,7 +72,7 @@ module _ (card : Card) (s : Signal) (r : Record) (card-good : CardRanges card) (
 
     curve-and-man-ranges : CurveStepRanges (curveAndMan card s r k)
     curve-and-man-ranges =
-        step-5-curve-ranges _ _ _ _ _ card-good curve-by-code-ranges _ _ (step-4-man-most _ _ _ _ _ man-by-code-most) (fits .v-most)
+        step-5-curve-ranges _ _ _ _ _ _ card-good curve-by-code-ranges _ (step-4-man-most _ _ _ _ _ man-by-code-most) (fits .v-most)
 
     pub steps-2-to-6-ranges : SignalStepRanges (steps2To6 card s r k)
     unfolding steps2To6

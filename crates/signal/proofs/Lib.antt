@@ -1,3 +1,3 @@
 pub mod Ranges
-pub mod Spent
+pub mod Value
 pub mod Keeps

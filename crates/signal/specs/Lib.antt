@@ -1,4 +1,5 @@
 pub mod Ranges
+pub mod Value
 pub mod Speed
 pub mod NewCode
 pub mod Man

@@ -14,7 +14,7 @@ use Rattle.codes.specs.Target.{target}
 use Rattle.signal.specs.Speed.{manOn, signalSpeed}
 
 abbrev pub curveFrom : ℕ → Curve
-curveFrom speed = record { start = speed; age = 0; prompted = 0 }
+curveFrom speed = record { start = speed; driven = 0; prompted = 0 }
 
 -- M is never below this speed
 abbrev pub leastMan : ℕ

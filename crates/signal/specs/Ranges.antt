@@ -1,6 +1,6 @@
 -- What the desk holds of the signals: its zeros, and its ranges, as facts and as the test that the code makes;
 -- then the ranges of what steps 2 to 6 find.
-use Prim.Native.Nat.{ℕ, _≤_}
+use Prim.Native.Nat.{ℕ, _+_, _*_, _≤_}
 use mathlib.Core.Bool.{Bool, _&&_}
 use lib.Dec.{leb}
 use Rattle.reading.specs.Speed.{topSpeed}
@@ -11,18 +11,22 @@ use Rattle.signal.specs.declared.NewCode.{NewCode}
 use Rattle.signal.specs.declared.CurveStep.{CurveStep}
 use Rattle.signal.specs.declared.SignalStep.{SignalStep}
 
-abbrev pub oldestAge : ℕ
-oldestAge = 5000
+abbrev pub farthest : ℕ
+farthest = 6250000
+
+-- the one-time rule looks ahead by 249 ticks at most
+abbrev pub farthestAhead : ℕ
+farthestAhead = farthest + 249 * topSpeed
 
 abbrev pub noCurve : Curve
-noCurve = record { start = 0; age = 0; prompted = 0 }
+noCurve = record { start = 0; driven = 0; prompted = 0 }
 
 abbrev pub noSignal : Signal
 noSignal = record { codes = noCodes; curve = noCurve; man = 0 }
 
 pub record CurveRanges (curve : Curve) : Type 0 where
   pub start-most : curve .start ≤ topSpeed
-  pub age-most : curve .age ≤ oldestAge
+  pub driven-most : curve .driven ≤ farthest
   pub prompted-most : curve .prompted ≤ 1
 
 pub record SignalRanges (signal : Signal) : Type 0 where
@@ -32,7 +36,7 @@ pub record SignalRanges (signal : Signal) : Type 0 where
 
 unfoldable pub signalInRange : Signal → Bool
 signalInRange signal =
-    codesInRange (signal .codes) && leb (signal .curve .start) topSpeed && leb (signal .curve .age) oldestAge
+    codesInRange (signal .codes) && leb (signal .curve .start) topSpeed && leb (signal .curve .driven) farthest
     && leb (signal .curve .prompted) 1 && leb (signal .man) topSpeed
 
 pub record NewCodeRanges (step : NewCode) : Type 0 where

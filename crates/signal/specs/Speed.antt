@@ -1,9 +1,10 @@
--- Step 6, the signal speed, with the curve's value of step 5.
-use Prim.Native.Nat.{ℕ, _-_, _*_, _/_, min, max}
+-- Step 6: the signal speed.
+use Prim.Native.Nat.{ℕ}
 use mathlib.Core.Bool.{Bool, cond}
 use lib.Dec.{ltb}
 use Rattle.card.specs.declared.Card.{Card}
 use Rattle.signal.specs.declared.Curve.{Curve}
+use Rattle.signal.specs.Value.{curveValue}
 
 -- a curve runs
 abbrev pub curveRuns : Curve → Bool
@@ -13,10 +14,6 @@ curveRuns curve = ltb 0 (curve .start)
 abbrev pub manOn : ℕ → Bool
 manOn man = ltb 0 man
 
--- the curve's value at age c: max(T, V0 − min(V0, floor(c·r/10)))
-unfoldable pub curveValue : Card → Curve → ℕ → ℕ → ℕ
-curveValue card curve t age = max t (curve .start - min (curve .start) (age * card .deceleration / 10))
-
 -- M under MAN, the curve's value under a curve, else T
 unfoldable pub signalSpeed : Card → Curve → ℕ → ℕ → ℕ
-signalSpeed card curve man t = cond (manOn man) man (cond (curveRuns curve) (curveValue card curve t (curve .age)) t)
+signalSpeed card curve man t = cond (manOn man) man (cond (curveRuns curve) (curveValue card curve t (curve .driven)) t)

@@ -24,7 +24,7 @@ module _ (card : Card) (signal : Signal) (reading : Record) (keys : Keys) where
   manLowered = step4Man (signal .man) (manByCode card signal reading) (unchanged (signal .codes) reading) targetNow (reading .v)
 
   abbrev pub curveAndMan : CurveStep
-  curveAndMan = step5Curve card (curveByCode card signal reading) (curveBegins card signal reading) targetNow keys manLowered (reading .v)
+  curveAndMan = step5Curve card (curveByCode card signal reading) (curveBegins card signal reading) targetNow (reading .v) keys manLowered
 
   abbrev pub signalNext : Signal
   signalNext = record { codes = codesNext (signal .codes) reading keys; curve = curveAndMan .curve; man = curveAndMan .man }

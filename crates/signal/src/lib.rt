@@ -1,14 +1,16 @@
 // MAN, the braking curve and the signal speed: steps 2 to 6 of a tick, in PRE.
 ghost use mathlib.Core.Path.{_≡_};
-ghost use Prim.Native.Nat.{suc, _≤_, _-_, min, max};
+ghost use lib.Dec.{eqb};
+ghost use Prim.Native.Nat.{_+_, _≤_};
 ghost use Rattle.card.specs.Card.{CardRanges};
 ghost use Rattle.reading.specs.Speed.{topSpeed};
 ghost use Rattle.record.specs.Record.{RecordRanges};
-ghost use Rattle.signal.specs.Ranges.{oldestAge, noSignal, CurveRanges, SignalRanges, NewCodeRanges, CurveStepRanges, SignalStepRanges, signalInRange};
-ghost use Rattle.signal.specs.Speed.{curveValue, signalSpeed};
+ghost use Rattle.signal.specs.Ranges.{farthest, farthestAhead, noSignal, CurveRanges, SignalRanges, NewCodeRanges, CurveStepRanges, SignalStepRanges, signalInRange};
+ghost use Rattle.signal.specs.Value.{fiveSquares, Largest, curveBound, curveValue};
+ghost use Rattle.signal.specs.Speed.{signalSpeed};
 ghost use Rattle.signal.specs.NewCode.{gapMan, step2NewCode};
 ghost use Rattle.signal.specs.Man.{step4Man};
-ghost use Rattle.signal.specs.Curve.{ageNow, step5Curve};
+ghost use Rattle.signal.specs.Curve.{drivenNow, step5Curve};
 ghost use Rattle.signal.specs.Steps.{steps2To6};
 use card::Card;
 use codes::Codes;
@@ -20,8 +22,8 @@ use record::Record;
 pub struct Curve {
     // V0, the speed it starts from; 0: no curve
     pub start: u16,
-    // c, its age in ticks
-    pub age: u16,
+    // E, the sum of v since it began
+    pub driven: u32,
     // w, whether its prompt of kind 1 was given
     pub prompted: u8,
 }
@@ -56,7 +58,8 @@ pub struct SignalStep {
     pub speed: u16,
 }
 
-const OLDEST_AGE: u16 = 5000;
+// The most that a desk holds as E.
+const FARTHEST: u32 = 6250000;
 
 // MAN never goes below this speed.
 const LEAST_MAN: u16 = 1200;
@@ -66,7 +69,7 @@ pub fn signal_in_range(signal: Signal) -> bool
 {
     codes::codes_in_range(signal.codes)
         & (signal.curve.start <= reading::TOP_SPEED)
-        & (signal.curve.age <= OLDEST_AGE)
+        & (signal.curve.driven <= FARTHEST)
         & (signal.curve.prompted <= 1)
         & (signal.man <= reading::TOP_SPEED)
 }
@@ -84,39 +87,62 @@ pub fn no_signal() -> Signal
         },
         curve: Curve {
             start: 0,
-            age: 0,
+            driven: 0,
             prompted: 0,
         },
         man: 0,
     }
 }
 
-// What is left of the start once so much has fallen off.
-fn left(start: u16, fallen: u32) -> u16
-    ensures { λ x. ⌜ x ≡ start - min start fallen ⌝ }
+// 5·w², by which speeds are compared without a root.
+pub fn five_squares(w: u16) -> u32
+    requires { ⌜ w ≤ topSpeed + 1 ⌝ }
+    ensures { λ x. ⌜ x ≡ fiveSquares w ⌝ }
 {
-    if start as u32 <= fallen {
-        return 0;
-    }
-    start - (fallen as u16)
+    5 * ((w as u32) * (w as u32))
 }
 
-pub fn curve_value(card: Card, curve: Curve, t: u16, age: u16) -> u16
-    ensures { λ x. ⌜ (x ≡ curveValue card curve t age) × (x ≤ max t (curve .start)) ⌝ }
+// What 5·w² is held to for the curve's value at E: max(5·T², 5·V0² − r·E).
+pub fn curve_bound(card: Card, curve: Curve, t: u16, driven: u32) -> u32
+    requires { ⌜ CardRanges card × CurveRanges curve × (t ≤ topSpeed) × (driven ≤ farthestAhead) ⌝ }
+    ensures { λ x. ⌜ (x ≡ curveBound card curve t driven) × (x ≤ fiveSquares topSpeed) ⌝ }
 {
-    let fallen = (age as u32) * (card.deceleration as u32) / 10;
-    numbers::greater(t, left(curve.start, fallen))
+    let least = five_squares(t);
+    let most = five_squares(curve.start);
+    let spent = (card.deceleration as u32) * driven;
+    if most <= least + spent {
+        return least;
+    }
+    most - spent
+}
+
+// The curve's value at E.
+fn curve_value(card: Card, curve: Curve, t: u16, driven: u32) -> u16
+    requires { ⌜ CardRanges card × CurveRanges curve × (t ≤ topSpeed) × (driven ≤ farthestAhead) ⌝ }
+    ensures { λ w. ⌜ Largest (curveBound card curve t driven) w ⌝ }
+{
+    let bound = curve_bound(card, curve, t, driven);
+    root::root(bound / 5) as u16
+}
+
+// Whether the curve's value at E equals T: the next speed above T is too high.
+fn curve_over(card: Card, curve: Curve, t: u16, driven: u32) -> bool
+    requires { ⌜ CardRanges card × CurveRanges curve × (t ≤ topSpeed) × (driven ≤ farthestAhead) ⌝ }
+    ensures { λ x. ⌜ x ≡ eqb (curveValue card curve t driven) t ⌝ }
+{
+    let bound = curve_bound(card, curve, t, driven);
+    bound < five_squares(t + 1)
 }
 
 fn signal_speed(card: Card, curve: Curve, man: u16, t: u16) -> u16
-    requires { ⌜ CurveRanges curve × (man ≤ topSpeed) × (t ≤ topSpeed) ⌝ }
+    requires { ⌜ CardRanges card × CurveRanges curve × (man ≤ topSpeed) × (t ≤ topSpeed) ⌝ }
     ensures { λ x. ⌜ (x ≡ signalSpeed card curve man t) × (x ≤ topSpeed) ⌝ }
 {
     if 0 < man {
         return man;
     }
     if 0 < curve.start {
-        return curve_value(card, curve, t, curve.age);
+        return curve_value(card, curve, t, curve.driven);
     }
     t
 }
@@ -141,7 +167,7 @@ fn step_2_new_code(card: Card, signal: Signal, reading: Record) -> NewCode
     let curve = signal.curve;
     let none = Curve {
         start: 0,
-        age: 0,
+        driven: 0,
         prompted: 0,
     };
     if reading.code == signal.codes.last {
@@ -177,7 +203,7 @@ fn step_2_new_code(card: Card, signal: Signal, reading: Record) -> NewCode
             man: 0,
             curve: Curve {
                 start: old,
-                age: 0,
+                driven: 0,
                 prompted: 0,
             },
             begins: true,
@@ -204,14 +230,15 @@ fn step_4_man(was: u16, now: u16, unchanged: bool, t: u16, v: u16) -> u16
     now
 }
 
-fn age_now(curve: Curve, begins: bool) -> u16
-    requires { ⌜ CurveRanges curve ⌝ }
-    ensures { λ x. ⌜ (x ≡ ageNow curve begins) × (x ≤ suc oldestAge) ⌝ }
+// Step 5: E with this tick's v; the first tick of a curve adds nothing.
+fn driven_now(curve: Curve, begins: bool, v: u16) -> u32
+    requires { ⌜ CurveRanges curve × (v ≤ topSpeed) ⌝ }
+    ensures { λ x. ⌜ (x ≡ drivenNow curve begins v) × (x ≤ farthest + topSpeed) ⌝ }
 {
     if begins {
-        return curve.age;
+        return curve.driven;
     }
-    curve.age + 1
+    curve.driven + (v as u32)
 }
 
 // Step 5, with M as step 4 leaves it.
@@ -220,21 +247,21 @@ fn step_5_curve(
     curve: Curve,
     begins: bool,
     t: u16,
+    v: u16,
     keys: Keys,
     man: u16,
-    v: u16,
 ) -> CurveStep
-    requires { ⌜ CardRanges card × CurveRanges curve × (man ≤ topSpeed) × (v ≤ topSpeed) ⌝ }
-    ensures { λ x. ⌜ (x ≡ step5Curve card curve begins t keys man v) × CurveStepRanges x ⌝ }
+    requires { ⌜ CardRanges card × CurveRanges curve × (t ≤ topSpeed) × (man ≤ topSpeed) × (v ≤ topSpeed) ⌝ }
+    ensures { λ x. ⌜ (x ≡ step5Curve card curve begins t v keys man) × CurveStepRanges x ⌝ }
 {
     let none = Curve {
         start: 0,
-        age: 0,
+        driven: 0,
         prompted: 0,
     };
     if 0 < curve.start {
-        let age = age_now(curve, begins);
-        if curve_value(card, curve, t, age) == t {
+        let driven = driven_now(curve, begins, v);
+        if curve_over(card, curve, t, driven) {
             return CurveStep {
                 curve: none,
                 man: man,
@@ -249,7 +276,7 @@ fn step_5_curve(
         return CurveStep {
             curve: Curve {
                 start: curve.start,
-                age: age,
+                driven: driven,
                 prompted: curve.prompted,
             },
             man: man,
@@ -277,9 +304,9 @@ pub fn steps_2_to_6(card: Card, signal: Signal, reading: Record, keys: Keys) -> 
         by_code.curve,
         by_code.begins,
         t,
+        reading.v,
         keys,
         lowered,
-        reading.v,
     );
     let curve = after_step_5.curve;
     let man = after_step_5.man;

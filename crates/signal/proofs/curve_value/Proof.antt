@@ -1,26 +1,21 @@
--- `curve_value` meets its contract: what has fallen off as in the definition, its product within a u32 (`product-fits`).
-use Rattle.signal.specs.Speed.{curveValue}
-use Rattle.signal.proofs.Spent.{product-fits}
+-- `curve_value` meets its contract: the bound and the root by their contracts (`root-largest`).
+use native.Mathlib.Omega.{arith}
 use borrow.Author.Needs.{needs}
+use Rattle.signal.proofs.Value.{speed-by-squares, root-largest}
 use Rattle.signal.proofs.curve_value.Statement.{statement}
 use Rattle.signal.proofs.curve_value.Tie as tie
 
-cast-fallen : tie.Need-cast-fallen
-cast-fallen c = search needs
+curve-bound-requires : tie.Need-curve-bound-requires
+curve-bound-requires c κs = search needs
 
-mul-fallen : tie.Need-mul-fallen
-mul-fallen c = record { fits = product-fits (search needs) (search needs) }
+root-requires : tie.Need-root-requires
+root-requires c κs = search needs
 
-left-requires : tie.Need-left-requires
-left-requires c κs = search needs
-
-greater-requires : tie.Need-greater-requires
-greater-requires c κs = search needs
+cast-result : tie.Need-cast-result
+cast-result c = omega (arith, speed-by-squares {w = c .root .result} (omega arith))
 
 returns : tie.Need-returns
-unfolding curveValue
-returns c = (simp (← c .greater .ensures, ← c .before .left .ensures), search needs)
+returns c = simp (← c .before .curve-bound .ensures .0) (root-largest (c .root .ensures .0) (c .root .ensures .1))
 
 pub curve-value-spec : {M : Type 1} → statement M
-curve-value-spec =
-    tie.close (tie.spec cast-fallen mul-fallen left-requires greater-requires returns)
+curve-value-spec = tie.close (tie.spec curve-bound-requires root-requires cast-result returns)

@@ -1,6 +1,8 @@
 -- `signal_speed` meets its contract: each return by the tests for MAN and a curve that led to it.
--- A curve's value is at most the greater of T and V0, so that it stays in range.
+-- The curve's value is the largest w, and there is one (`only`); it is at most the greater of T and V0, so that it stays in range.
+use native.Mathlib.Omega.{arith}
 use Rattle.signal.specs.Speed.{signalSpeed}
+use Rattle.signal.proofs.Value.{only, value-largest, value-most}
 use borrow.Author.Tests.{le-ltb, lt-ltb}
 use borrow.Author.Needs.{needs}
 use Rattle.signal.proofs.signal_speed.Statement.{statement}
@@ -17,7 +19,11 @@ returns-2 : tie.Need-returns-2
 unfolding signalSpeed
 returns-2 c =
     let curve = c .before in
-    (simp (← c .curve-value .ensures .0, lt-ltb _ _ (curve .if2 .taken), le-ltb _ _ (curve .before .before .if1 .left)), search needs)
+    let a = curve .before .before .before .args in
+    let value = only (value-largest (a .card) (a .curve) (a .t) (a .curve .driven)) (c .curve-value .ensures) in (
+      simp (value, lt-ltb _ _ (curve .if2 .taken), le-ltb _ _ (curve .before .before .if1 .left)),
+      omega (arith, value, value-most (a .card) (a .curve) (a .t) (a .curve .driven)),
+    )
 
 returns-3 : tie.Need-returns-3
 unfolding signalSpeed

@@ -1,0 +1,26 @@
+-- Step 5, by request 2: the curve's value at E is the largest w with 5·w² ≤ max(5·T², 5·V0² − r·E).
+use Prim.Native.Nat.{ℕ, zero, suc, _+_, _-_, _*_, _≤_, _<_, max}
+use mathlib.Core.Bool.{cond}
+use lib.Dec.{leb}
+use Rattle.card.specs.declared.Card.{Card}
+use Rattle.signal.specs.declared.Curve.{Curve}
+
+abbrev pub fiveSquares : ℕ → ℕ
+fiveSquares w = 5 * (w * w)
+
+-- w is the largest with 5·w² ≤ bound: it fits, the next does not
+pub record Largest (bound w : ℕ) : Type 0 where
+  pub fits : fiveSquares w ≤ bound
+  pub next-does-not : bound < fiveSquares (w + 1)
+
+unfoldable pub curveBound : Card → Curve → ℕ → ℕ → ℕ
+curveBound card curve t driven = max (fiveSquares t) (fiveSquares (curve .start) - card .deceleration * driven)
+
+-- the largest w, looked for from `most` down
+unfoldable pub largestFrom : ℕ → ℕ → ℕ
+largestFrom bound zero = 0
+largestFrom bound (suc w) = cond (leb (fiveSquares (suc w)) bound) (suc w) (largestFrom bound w)
+
+-- the curve's value at E, which is no higher than T and V0
+unfoldable pub curveValue : Card → Curve → ℕ → ℕ → ℕ
+curveValue card curve t driven = largestFrom (curveBound card curve t driven) (max t (curve .start))
