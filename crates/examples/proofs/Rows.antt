@@ -9,12 +9,13 @@ use Rattle.card.specs.Card.{cardInRange}
 use Rattle.record.specs.Record.{recordInRange}
 use Rattle.record.specs.Flags.{pressed, keysOf}
 use Rattle.codes.specs.Target.{target}
-use Rattle.signal.specs.Speed.{curveValue, signalSpeed}
+use Rattle.signal.specs.Value.{curveBound, largestOf, curveValue}
+use Rattle.signal.specs.Speed.{signalSpeed}
 use Rattle.codes.specs.Gap.{interruptedNext, gapNext}
 use Rattle.signal.specs.NewCode.{gapMan, manByCode, curveBegins, curveByCode}
 use Rattle.codes.specs.Plus.{raiseByCode, step3Plus, codesNext}
 use Rattle.signal.specs.Man.{step4Man}
-use Rattle.signal.specs.Curve.{ageNow, curveHolds, manStarts, curveAged, manStarted}
+use Rattle.signal.specs.Curve.{drivenNow, curveHolds, manStarts, curveNow, manNow}
 use Rattle.signal.specs.Steps.{steps2To6}
 use Rattle.cyclic.specs.Cyclic.{asksIncreased, asksOrdinary, cyclicKind, cycleLength, cyclicLapses, cyclicTicks, cyclicPrompts}
 use Rattle.onetime.specs.OneTime.{lead, exceeds, promptLapses, promptStays, dueAhead}
@@ -34,9 +35,9 @@ use Rattle.examples.specs.Rows.{rows}
 
 -- with `[]` and `_∷_` in scope, a refusal of a short table shows the numbers that differ
 unfoldable pub rows-hold : map (λ row. row .what) rows ≡ map (λ row. row .is) rows
-unfolding rows ticks drive taken atEnd ofBits quantity speedAt speedOf speedValue cardInRange recordInRange pressed keysOf target curveValue
-    signalSpeed gapMan manByCode curveBegins curveByCode interruptedNext gapNext raiseByCode step3Plus codesNext step4Man ageNow curveHolds manStarts
-    curveAged manStarted steps2To6 asksIncreased asksOrdinary cyclicKind cycleLength cyclicLapses cyclicTicks cyclicPrompts lead exceeds promptLapses
+unfolding rows ticks drive taken atEnd ofBits quantity speedAt speedOf speedValue cardInRange recordInRange pressed keysOf target curveBound
+    largestOf curveValue signalSpeed gapMan manByCode curveBegins curveByCode interruptedNext gapNext raiseByCode step3Plus codesNext step4Man drivenNow curveHolds manStarts
+    curveNow manNow steps2To6 asksIncreased asksOrdinary cyclicKind cycleLength cyclicLapses cyclicTicks cyclicPrompts lead exceeds promptLapses
     promptStays dueAhead dueAtStart asksAhead asksAtStart promptTicksNext promptKindNext promptedNext heldIn maskOf ifHeld listed firstOr lowest
     howMany wrongwayNow wrongwayTriggers counted standingNow standingTriggers standingSounds released step10Held step10Wrongway modeNow
     step1Mode ceiling step6Permitted signalIn permittedIn kindIn cyclicIn oneTimeIn directionIn standingIn triggersIn releasesIn heldNext wrongwayNext

@@ -33,16 +33,16 @@ badCard n = set (busy n) 8 149
 abbrev zeros : List ℕ
 zeros = replicate 28 0
 
--- in PRE under Warning: a curve from 1600 of age 150, a one-time prompt of kind 1, q 150, d 100, h 50, every cause held; and a tick later
+-- in PRE under Warning: a curve from 1600 at E 200,000, a one-time prompt of kind 1, q 150, d 100, h 50, every cause held; and a tick later
 abbrev underway : List ℕ
-underway = deskK (0 ∷ 2 ∷ 1 ∷ 2 ∷ 0 ∷ 0 ∷ 0 ∷ 1600 ∷ 150 ∷ 0 ∷ 0 ∷ 10 ∷ 1 ∷ 1 ∷ 150 ∷ 100 ∷ 50 ∷ 31 ∷ [])
+underway = deskK (0 ∷ 2 ∷ 1 ∷ 2 ∷ 0 ∷ 0 ∷ 0 ∷ 1600 ∷ 200000 ∷ 0 ∷ 0 ∷ 10 ∷ 1 ∷ 1 ∷ 150 ∷ 100 ∷ 50 ∷ 31 ∷ [])
 
 abbrev underwayNext : List ℕ
-underwayNext = deskK (1 ∷ 2 ∷ 2 ∷ 2 ∷ 0 ∷ 0 ∷ 0 ∷ 1600 ∷ 151 ∷ 0 ∷ 0 ∷ 11 ∷ 1 ∷ 1 ∷ 151 ∷ 0 ∷ 0 ∷ 31 ∷ [])
+underwayNext = deskK (1 ∷ 2 ∷ 2 ∷ 2 ∷ 0 ∷ 0 ∷ 0 ∷ 1600 ∷ 200360 ∷ 0 ∷ 0 ∷ 11 ∷ 1 ∷ 1 ∷ 151 ∷ 0 ∷ 0 ∷ 31 ∷ [])
 
 -- P by the curve, T, marks of a curve and a prompt with its kind, causes, the lowest and how many
 abbrev underwayAnswer : List ℕ
-underwayAnswer = 1329 ∷ 1200 ∷ 26 ∷ 31 ∷ 1 ∷ 5 ∷ []
+underwayAnswer = 1355 ∷ 1200 ∷ 26 ∷ 31 ∷ 1 ∷ 5 ∷ []
 
 -- ---- samples: speed, pressure, code, flags, sense; mode PRE and lever forward
 

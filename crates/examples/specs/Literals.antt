@@ -37,7 +37,7 @@ deskOf x = record {
     buttons = getD x 12 0;
     signal = record {
       codes = record { last = getD x 13 0; interrupted = getD x 14 0; gap = getD x 15 0; raise = getD x 16 0 };
-      curve = record { start = getD x 17 0; age = getD x 18 0; prompted = getD x 20 0 };
+      curve = record { start = getD x 17 0; driven = getD x 18 0; prompted = getD x 20 0 };
       man = getD x 19 0;
     };
     prompt = record { ticks = getD x 21 0; kind = getD x 22 0 };
@@ -73,7 +73,7 @@ stateNumbers s =
     ∷ s .signal .codes .gap
     ∷ s .signal .codes .raise
     ∷ s .signal .curve .start
-    ∷ s .signal .curve .age
+    ∷ s .signal .curve .driven
     ∷ s .signal .man
     ∷ s .signal .curve .prompted
     ∷ s .prompt .ticks

@@ -52,12 +52,12 @@ causes x = x .answer .causes
 abbrev lowest : AfterTick → ℕ
 lowest x = x .answer .lowest
 
--- ---- looks at the state: V0, c and w of the curve; M; kind and q of cyclic vigilance
+-- ---- looks at the state: V0, E and w of the curve; M; kind and q of cyclic vigilance
 abbrev start : AfterTick → ℕ
 start x = x .state .signal .curve .start
 
-abbrev age : AfterTick → ℕ
-age x = x .state .signal .curve .age
+abbrev driven : AfterTick → ℕ
+driven x = x .state .signal .curve .driven
 
 abbrev prompted : AfterTick → ℕ
 prompted x = x .state .signal .curve .prompted
@@ -73,22 +73,22 @@ count x = x .state .cyclic .ticks
 
 -- ---- the drives
 
--- Clear, then another code up to age c of its curve. The train stands, so that nothing but the curve goes on
-abbrev clearTo : ℕ → ℕ → Runs
-clearTo code c = (10, stands clear) ∷ (1 + c, stands code) ∷ []
+-- Clear, then another code, whose curve begins in its first tick; then so many ticks at 1000 and one at v, so that E is 1000 times those and v
+abbrev clearTo : ℕ → ℕ → ℕ → Runs
+clearTo code thousands v = (10, stands clear) ∷ (1, stands code) ∷ (thousands, drives 1000 code) ∷ (1, drives v code) ∷ []
 
--- at v, Clear to Stop, up to age c of the curve
+-- at v, Clear to Stop, up to the c-th tick after the curve's first
 abbrev toStop : ℕ → ℕ → Runs
 toStop v c = (10, stands clear) ∷ (10, drives v clear) ∷ (1 + c, drives v stop) ∷ []
 
--- the same, with a vigilance press at age 1, which confirms the start prompt
+-- the same, with a vigilance press in the 20th, which confirms the start prompt and keeps the cyclic prompt away
 abbrev confirmed : ℕ → ℕ → Runs
 confirmed v c =
     (10, stands clear)
     ∷ (10, drives v clear)
-    ∷ (1, drives v stop)
+    ∷ (20, drives v stop)
     ∷ (1, presses vigilance v stop)
-    ∷ (c - 1, drives v stop)
+    ∷ (c - 20, drives v stop)
     ∷ []
 
 -- MAN entered at v by a press, under Stop with its curve running; then a tick at each of the next speeds
@@ -136,20 +136,20 @@ rows =
     -- "0.125 m/s is 5; 10 is 360": 1 / 8 and 10 / 1, by their bits
     row (floatOfBits 0x3e000000) ((numerator, 1) ∷ (denominator, 8) ∷ (tenths, 5) ∷ [])
     ∷ row (floatOfBits 0x41200000) ((numerator, 10) ∷ (denominator, 1) ∷ (tenths, 360) ∷ [])
-    -- "Clear to Warning: 1201 at age 222, ends at 223": P is the signal speed where that is below 1400
-    ∷ ends (clearTo warning 222) ((age, 222) ∷ (permitted, 1201) ∷ (marks, 2) ∷ [])
-    ∷ ends (clearTo warning 223) ((start, 0) ∷ (permitted, 1200) ∷ (marks, 0) ∷ [])
-    -- "Clear to Stop: 2 at 888, ends at 889"
-    ∷ ends (clearTo stop 888) ((age, 888) ∷ (permitted, 2) ∷ (marks, 2) ∷ [])
-    ∷ ends (clearTo stop 889) ((start, 0) ∷ (permitted, 0) ∷ (marks, 0) ∷ [])
-    -- "v 1200, Clear to Stop: start prompt, then D first true at age 140": D(c + R) gives the prompt of kind 1 and sets w
-    ∷ ends (toStop 1200 0) ((age, 0) ∷ (marks, 10) ∷ (prompted, 0) ∷ [])
-    ∷ ends (confirmed 1200 139) ((age, 139) ∷ (marks, 2) ∷ (prompted, 0) ∷ [])
-    ∷ ends (confirmed 1200 140) ((age, 140) ∷ (marks, 26) ∷ (prompted, 1) ∷ [])
-    -- "v 1400: age 29, no start prompt"
-    ∷ ends (toStop 1400 0) ((age, 0) ∷ (marks, 2) ∷ (prompted, 0) ∷ [])
-    ∷ ends (toStop 1400 28) ((age, 28) ∷ (marks, 2) ∷ (prompted, 0) ∷ [])
-    ∷ ends (toStop 1400 29) ((age, 29) ∷ (marks, 26) ∷ (prompted, 1) ∷ [])
+    -- "Clear to Warning 1201 at E 310,444, ends at 310,445": P is the signal speed where that is below 1400
+    ∷ ends (clearTo warning 310 444) ((driven, 310444) ∷ (start, 1600) ∷ (permitted, 1201) ∷ [])
+    ∷ ends (clearTo warning 310 445) ((driven, 0) ∷ (start, 0) ∷ (permitted, 1200) ∷ [])
+    -- "Clear to Stop 2 at 711,110, ends at 711,111"
+    ∷ ends (clearTo stop 711 110) ((driven, 711110) ∷ (start, 1600) ∷ (permitted, 2) ∷ [])
+    ∷ ends (clearTo stop 711 111) ((driven, 0) ∷ (start, 0) ∷ (permitted, 0) ∷ [])
+    -- "v 1200 Clear to Stop: start prompt, D first true at the 176th tick after the first": D ahead gives the prompt of kind 1 and sets w
+    ∷ ends (toStop 1200 0) ((driven, 0) ∷ (marks, 10) ∷ (prompted, 0) ∷ [])
+    ∷ ends (confirmed 1200 175) ((driven, 210000) ∷ (marks, 2) ∷ (prompted, 0) ∷ [])
+    ∷ ends (confirmed 1200 176) ((driven, 211200) ∷ (marks, 26) ∷ (prompted, 1) ∷ [])
+    -- "v 1400: the 36th tick, no start prompt"
+    ∷ ends (toStop 1400 0) ((driven, 0) ∷ (marks, 2) ∷ (prompted, 0) ∷ [])
+    ∷ ends (toStop 1400 35) ((driven, 49000) ∷ (marks, 2) ∷ (prompted, 0) ∷ [])
+    ∷ ends (toStop 1400 36) ((driven, 50400) ∷ (marks, 26) ∷ (prompted, 1) ∷ [])
     -- "MAN entered at 1350, then 1300, 1320, 1100, 1250: M is 1350, 1300, 1300, 1200, 1200 (Stop)"
     ∷ ends (underMan 1350 []) ((manSpeed, 1350) ∷ [])
     ∷ ends (underMan 1350 (1300 ∷ [])) ((manSpeed, 1300) ∷ [])

@@ -8,8 +8,10 @@ use native.Mathlib.Omega.{arith}
 use borrow.Author.Tests.{lt-ltb, le-ltb}
 use lib.Dec.{ltb}
 use Rattle.numbers.proofs.Tests.{le-or-lt}
+use Rattle.reading.specs.Speed.{topSpeed}
 use Rattle.card.specs.declared.Card.{Card}
 use Rattle.signal.specs.declared.Curve.{Curve}
+use Rattle.signal.specs.Ranges.{CurveRanges}
 use Rattle.signal.specs.Value.{fiveSquares, curveBound, curveValue}
 use Rattle.signal.proofs.Value.{above-by-squares, value-largest}
 use Rattle.onetime.specs.OneTime.{exceeds}
@@ -23,11 +25,12 @@ moved x more v p =
     (le-or-lt v (x + more))
 
 module _ (card : Card) (curve : Curve) (t v driven : ℕ) where
-  pub exceeds-by-squares : card .tolerance < v → exceeds card curve t v driven ≡ ltb (curveBound card curve t driven) (fiveSquares (v - card .tolerance))
+  pub exceeds-by-squares : CurveRanges curve → t ≤ topSpeed → card .tolerance < v
+      → exceeds card curve t v driven ≡ ltb (curveBound card curve t driven) (fiveSquares (v - card .tolerance))
   unfolding exceeds
-  exceeds-by-squares p =
+  exceeds-by-squares good t-most p =
       moved (curveValue card curve t driven) (card .tolerance) v p
-      ∙ above-by-squares (value-largest card curve t driven) (v - card .tolerance)
+      ∙ above-by-squares (value-largest card curve t driven good t-most) (v - card .tolerance)
 
   -- no speed within the tolerance exceeds anything
   pub slow-never : v ≤ card .tolerance → exceeds card curve t v driven ≡ false

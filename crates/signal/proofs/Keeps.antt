@@ -29,19 +29,19 @@ use Rattle.signal.proofs.Value.{value-most, unspent}
 pub signal-speed-most : (card : Card) (curve : Curve) (man t : ℕ) → CurveRanges curve → man ≤ topSpeed → t ≤ topSpeed
     → signalSpeed card curve man t ≤ topSpeed
 unfolding signalSpeed
-signal-speed-most card curve man t good p q = simp most-iff (omega (arith, value-most card curve t (curve .driven)))
+signal-speed-most card curve man t good p q = simp most-iff (omega (arith, value-most card curve t (curve .driven) good q))
 
 pub step-4-man-most : (was now : ℕ) (unchanged : Bool) (t v : ℕ) → now ≤ topSpeed → step4Man was now unchanged t v ≤ topSpeed
 unfolding step4Man
 step-4-man-most was now unchanged t v p = simp most-iff (omega arith)
 
-module _ (card : Card) (curve : Curve) (begins : Bool) (t v : ℕ) (k : Keys) (card-good : CardRanges card) (good : CurveRanges curve) where
+module _ (card : Card) (curve : Curve) (begins : Bool) (t v : ℕ) (k : Keys) (card-good : CardRanges card) (good : CurveRanges curve) (t-most : t ≤ topSpeed) where
   -- a curve that goes on is not spent
   near : curveHolds card curve begins t v ≡ true → drivenNow curve begins v ≤ farthest
   unfolding curveHolds
   near h =
       let f = simp (and-iff, not-iff) at h in
-      omega (arith, unspent card curve t (drivenNow curve begins v) card-good good (eqb-false _ _ (f .1)))
+      omega (arith, unspent card curve t (drivenNow curve begins v) good t-most card-good (eqb-false _ _ (f .1)))
 
   curve-now-ranges : CurveRanges (curveNow card curve begins t v k)
   unfolding curveNow
@@ -72,7 +72,7 @@ module _ (card : Card) (s : Signal) (r : Record) (card-good : CardRanges card) (
 
     curve-and-man-ranges : CurveStepRanges (curveAndMan card s r k)
     curve-and-man-ranges =
-        step-5-curve-ranges _ _ _ _ _ _ card-good curve-by-code-ranges _ (step-4-man-most _ _ _ _ _ man-by-code-most) (fits .v-most)
+        step-5-curve-ranges _ _ _ _ _ _ card-good curve-by-code-ranges target-now-most _ (step-4-man-most _ _ _ _ _ man-by-code-most) (fits .v-most)
 
     pub steps-2-to-6-ranges : SignalStepRanges (steps2To6 card s r k)
     unfolding steps2To6

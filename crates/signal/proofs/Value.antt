@@ -1,6 +1,6 @@
 -- The curve's value is the largest w, and the only one; speeds are compared with it by their squares; and a curve that is not over is within its range of E.
 -- A square grows with its side, by multiplying out. Assumes nothing.
-use Prim.Native.Nat.{ℕ, zero, suc, _+_, _*_, _/_, _≤_, _<_, max}
+use Prim.Native.Nat.{ℕ, zero, suc, _+_, _*_, _/_, _^_, _≤_, _<_, max}
 use mathlib.Core.Path.{_≡_, refl, sym, _∙_}
 use mathlib.Core.Bool.{Bool, true, false}
 use mathlib.Core.Logic.{⊎-elim}
@@ -9,13 +9,12 @@ use native.Mathlib.Omega.{arith}
 use borrow.Author.Tests.{leb-true, leb-false, ltb-false, lt-ltb, le-ltb, eq-eqb, ne-eqb}
 use lib.Dec.{leb, ltb, eqb}
 use Rattle.numbers.proofs.Tests.{le-or-lt}
-use Rattle.numbers.proofs.Choice.{most-iff}
 use Rattle.card.specs.declared.Card.{Card}
 use Rattle.card.specs.Card.{CardRanges, mostDeceleration}
 use Rattle.reading.specs.Speed.{topSpeed}
 use Rattle.signal.specs.declared.Curve.{Curve}
 use Rattle.signal.specs.Ranges.{CurveRanges, farthest, farthestAhead}
-use Rattle.signal.specs.Value.{fiveSquares, Largest, curveBound, largestFrom, curveValue}
+use Rattle.signal.specs.Value.{fiveSquares, Largest, curveBound, nextIfFits, largestOf, curveValue}
 
 pub squares-grow : {a b : ℕ} → a ≤ b → fiveSquares a ≤ fiveSquares b
 squares-grow p = mul-le-mul-left 5 (mul-le-mul p p)
@@ -25,21 +24,19 @@ pub speed-by-squares : {w : ℕ} → fiveSquares w ≤ fiveSquares topSpeed → 
 speed-by-squares {w} h =
     ⊎-elim (λ p. p) (λ p. absurd (omega (arith, squares-grow {a = topSpeed + 1} {b = w} (omega arith)))) (le-or-lt w topSpeed)
 
--- looked for from where no larger one fits, the largest is found
-pub found : (bound most : ℕ) → bound < fiveSquares (most + 1) → Largest bound (largestFrom bound most)
-unfolding largestFrom
-found bound zero h = record { fits = omega arith; next-does-not = h }
-found bound (suc w) h = go (leb (fiveSquares (suc w)) bound) refl (found bound w)
+-- from the largest for a quarter of the bound to that for the bound
+doubled : (bound w : ℕ) → Largest (bound / 4) w → Largest bound (nextIfFits bound (2 * w))
+doubled bound w quarter = go (leb (fiveSquares (2 * w + 1)) bound) refl
   where
-    go : (t : Bool) → leb (fiveSquares (suc w)) bound ≡ t → (bound < fiveSquares (w + 1) → Largest bound (largestFrom bound w))
-        → Largest bound (largestFrom bound (suc w))
-    go true e lower = rw e (record { fits = leb-true _ _ e; next-does-not = h })
-    go false e lower = rw e (lower (omega (arith, leb-false (fiveSquares (suc w)) bound e)))
+    go : (t : Bool) → leb (fiveSquares (2 * w + 1)) bound ≡ t → Largest bound (nextIfFits bound (2 * w))
+    go true e = rw e (record { fits = leb-true _ _ e; next-does-not = omega (arith, quarter) })
+    go false e = rw e (record { fits = omega (arith, quarter); next-does-not = leb-false _ _ e })
 
-pub found-most : (bound most : ℕ) → largestFrom bound most ≤ most
-unfolding largestFrom
-found-most bound zero = omega arith
-found-most bound (suc w) = simp most-iff (omega (arith, found-most bound w))
+-- so many digits are enough below five times their power of 4
+pub found : (digits bound : ℕ) → bound < 5 * 4 ^ digits → Largest bound (largestOf digits bound)
+unfolding largestOf
+found zero bound h = record { fits = omega arith; next-does-not = omega arith }
+found (suc digits) bound h = doubled bound (largestOf digits (bound / 4)) (found digits (bound / 4) (omega arith))
 
 module _ {bound w : ℕ} (largest : Largest bound w) where
   -- what fits is no larger
@@ -74,24 +71,17 @@ least-equal {least} {x} p =
 pub spent-most : (card : Card) (driven : ℕ) → CardRanges card → driven ≤ farthestAhead → card .deceleration * driven ≤ mostDeceleration * farthestAhead
 spent-most card driven good p = mul-le-mul (good .deceleration-most) p
 
-module _ (card : Card) (curve : Curve) (t driven : ℕ) where
-  bound-most : curveBound card curve t driven ≤ fiveSquares (max t (curve .start))
+module _ (card : Card) (curve : Curve) (t driven : ℕ) (good : CurveRanges curve) (t-most : t ≤ topSpeed) where
+  pub bound-most : curveBound card curve t driven ≤ fiveSquares topSpeed
   unfolding curveBound
-  bound-most =
-      let by-target : fiveSquares t ≤ fiveSquares (max t (curve .start)) = squares-grow (omega arith) in
-      let by-start : fiveSquares (curve .start) ≤ fiveSquares (max t (curve .start)) = squares-grow (omega arith) in
-      omega arith
-
-  pub bound-top : CurveRanges curve → t ≤ topSpeed → curveBound card curve t driven ≤ fiveSquares topSpeed
-  bound-top good p = omega (arith, bound-most, squares-grow {a = max t (curve .start)} {b = topSpeed} (omega arith))
+  bound-most = omega (arith, squares-grow t-most, squares-grow (good .start-most))
 
   pub value-largest : Largest (curveBound card curve t driven) (curveValue card curve t driven)
   unfolding curveValue
-  value-largest = found _ _ (omega (arith, bound-most, squares-grow {a = max t (curve .start)} {b = max t (curve .start) + 1} (omega arith)))
+  value-largest = found 12 (curveBound card curve t driven) (omega (arith, bound-most))
 
-  pub value-most : curveValue card curve t driven ≤ max t (curve .start)
-  unfolding curveValue
-  value-most = found-most _ _
+  pub value-most : curveValue card curve t driven ≤ topSpeed
+  value-most = speed-by-squares (omega (arith, value-largest .fits, bound-most))
 
   pub value-least : t ≤ curveValue card curve t driven
   unfolding curveBound
@@ -102,9 +92,8 @@ module _ (card : Card) (curve : Curve) (t driven : ℕ) where
   over-by-squares = least-equal value-least ∙ above-by-squares value-largest (t + 1)
 
   -- with r ≥ 5 and V0 ≤ 2500, r·E is 5·V0² before E is 6,250,000
-  module _ (card-good : CardRanges card) (curve-good : CurveRanges curve) where
-    pub unspent : (curveValue card curve t driven ≡ t → ⊥) → driven < farthest
-    unfolding curveBound
-    unspent n =
-        let higher : fiveSquares (t + 1) ≤ curveBound card curve t driven = ltb-false _ _ (sym over-by-squares ∙ ne-eqb _ _ n) in
-        omega (arith, squares-grow (curve-good .start-most), mul-le-mul-left driven (card-good .deceleration-least))
+  pub unspent : CardRanges card → (curveValue card curve t driven ≡ t → ⊥) → driven < farthest
+  unfolding curveBound
+  unspent card-good n =
+      let higher : fiveSquares (t + 1) ≤ curveBound card curve t driven = ltb-false _ _ (sym over-by-squares ∙ ne-eqb _ _ n) in
+      omega (arith, squares-grow (good .start-most), mul-le-mul-left driven (card-good .deceleration-least))

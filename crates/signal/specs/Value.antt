@@ -1,5 +1,5 @@
 -- Step 5, by request 2: the curve's value at E is the largest w with 5·w² ≤ max(5·T², 5·V0² − r·E).
-use Prim.Native.Nat.{ℕ, zero, suc, _+_, _-_, _*_, _≤_, _<_, max}
+use Prim.Native.Nat.{ℕ, zero, suc, _+_, _-_, _*_, _/_, _≤_, _<_, max}
 use mathlib.Core.Bool.{cond}
 use lib.Dec.{leb}
 use Rattle.card.specs.declared.Card.{Card}
@@ -16,11 +16,15 @@ pub record Largest (bound w : ℕ) : Type 0 where
 unfoldable pub curveBound : Card → Curve → ℕ → ℕ → ℕ
 curveBound card curve t driven = max (fiveSquares t) (fiveSquares (curve .start) - card .deceleration * driven)
 
--- the largest w, looked for from `most` down
-unfoldable pub largestFrom : ℕ → ℕ → ℕ
-largestFrom bound zero = 0
-largestFrom bound (suc w) = cond (leb (fiveSquares (suc w)) bound) (suc w) (largestFrom bound w)
+-- the next w, if it fits
+abbrev pub nextIfFits : ℕ → ℕ → ℕ
+nextIfFits bound w = cond (leb (fiveSquares (w + 1)) bound) (w + 1) w
 
--- the curve's value at E, which is no higher than T and V0
+-- the largest w of so many binary digits: twice that for a quarter of the bound, or the next
+unfoldable pub largestOf : ℕ → ℕ → ℕ
+largestOf zero bound = 0
+largestOf (suc digits) bound = nextIfFits bound (2 * largestOf digits (bound / 4))
+
+-- the curve's value at E; a speed has 12 binary digits
 unfoldable pub curveValue : Card → Curve → ℕ → ℕ → ℕ
-curveValue card curve t driven = largestFrom (curveBound card curve t driven) (max t (curve .start))
+curveValue card curve t driven = largestOf 12 (curveBound card curve t driven)

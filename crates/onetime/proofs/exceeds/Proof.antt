@@ -22,9 +22,10 @@ returns-2 : tie.Need-returns-2
 returns-2 c =
     let bound = c .before .before in
     let moves = bound .before in
-    let a = moves .before .before .args in
+    let start = moves .before .before in
+    let a = start .args in
     simp (
-      exceeds-by-squares (a .card) (a .curve) (a .t) (a .v) (a .driven) (moves .if1 .left),
+      exceeds-by-squares (a .card) (a .curve) (a .t) (a .v) (a .driven) (start .pre .1) (start .pre .2) (moves .if1 .left),
       ← c .five-squares .ensures,
       ← bound .curve-bound .ensures .0,
     )

@@ -5,7 +5,7 @@ use borrow.Author.Needs.{needs}
 use Rattle.numbers.proofs.Alike.{and-so}
 use Rattle.reading.specs.Speed.{topSpeed}
 use Rattle.signal.specs.Value.{fiveSquares, curveBound}
-use Rattle.signal.proofs.Value.{squares-grow, bound-top, spent-most}
+use Rattle.signal.proofs.Value.{squares-grow, bound-most, spent-most}
 use Rattle.signal.proofs.curve_bound.Statement.{statement}
 use Rattle.signal.proofs.curve_bound.Tie as tie
 
@@ -41,7 +41,7 @@ returns c =
     let a = start .args in
     and-so InTop
     (simp (← most .five-squares2 .ensures, ← least .five-squares .ensures) (omega arith))
-    (bound-top (a .card) (a .curve) (a .t) (a .driven) (start .pre .1) (start .pre .2))
+    (bound-most (a .card) (a .curve) (a .t) (a .driven) (start .pre .1) (start .pre .2))
 
 sub-result : tie.Need-sub-result
 sub-result c = search needs
@@ -55,7 +55,7 @@ returns-2 c =
     let a = start .args in
     and-so InTop
     (simp (← most .five-squares2 .ensures, ← least .five-squares .ensures) (omega arith))
-    (bound-top (a .card) (a .curve) (a .t) (a .driven) (start .pre .1) (start .pre .2))
+    (bound-most (a .card) (a .curve) (a .t) (a .driven) (start .pre .1) (start .pre .2))
 
 pub curve-bound-spec : {M : Type 1} → statement M
 curve-bound-spec =

@@ -15,8 +15,13 @@ five-squares-requires c κs = search needs
 
 returns : tie.Need-returns
 returns c =
-    let a = c .before .before .args in
-    simp (over-by-squares (a .card) (a .curve) (a .t) (a .driven), ← c .five-squares .ensures, ← c .before .curve-bound .ensures .0)
+    let start = c .before .before in
+    let a = start .args in
+    simp (
+      over-by-squares (a .card) (a .curve) (a .t) (a .driven) (start .pre .1) (start .pre .2),
+      ← c .five-squares .ensures,
+      ← c .before .curve-bound .ensures .0,
+    )
 
 pub curve-over-spec : {M : Type 1} → statement M
 curve-over-spec =

@@ -1,5 +1,5 @@
 -- `signal_speed` meets its contract: each return by the tests for MAN and a curve that led to it.
--- The curve's value is the largest w, and there is one (`only`); it is at most the greater of T and V0, so that it stays in range.
+-- The curve's value is the largest w, and there is one (`only`).
 use native.Mathlib.Omega.{arith}
 use Rattle.signal.specs.Speed.{signalSpeed}
 use Rattle.signal.proofs.Value.{only, value-largest, value-most}
@@ -19,10 +19,13 @@ returns-2 : tie.Need-returns-2
 unfolding signalSpeed
 returns-2 c =
     let curve = c .before in
-    let a = curve .before .before .before .args in
-    let value = only (value-largest (a .card) (a .curve) (a .t) (a .curve .driven)) (c .curve-value .ensures) in (
+    let start = curve .before .before .before in
+    let a = start .args in
+    let good = start .pre .1 in
+    let t-most = start .pre .3 in
+    let value = only (value-largest (a .card) (a .curve) (a .t) (a .curve .driven) good t-most) (c .curve-value .ensures) in (
       simp (value, lt-ltb _ _ (curve .if2 .taken), le-ltb _ _ (curve .before .before .if1 .left)),
-      omega (arith, value, value-most (a .card) (a .curve) (a .t) (a .curve .driven)),
+      omega (arith, value, value-most (a .card) (a .curve) (a .t) (a .curve .driven) good t-most),
     )
 
 returns-3 : tie.Need-returns-3
