@@ -9,3 +9,4 @@ pub mod Demand2
 pub mod Replay
 pub mod Demand3
 pub mod Valve
+pub mod Distance

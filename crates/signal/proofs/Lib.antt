@@ -1,3 +1,4 @@
 pub mod Ranges
 pub mod Value
 pub mod Keeps
+pub mod Distance
