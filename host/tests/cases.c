@@ -149,8 +149,8 @@ static void compare_judgement(struct dice *dice, foldharbor_desk desk, bool in_r
 /* The desk with the field at the ends of its range, next to them, and far out. */
 static void compare_field(struct dice *dice, foldharbor_desk desk, const struct field *field)
 {
-    const uint32_t values[] = {field->least - 1, field->least,    field->least + 1, field->most - 1, field->most,
-                               field->most + 1,  UINT16_MAX,      UINT16_MAX + 1,   UINT32_MAX,      0};
+    const uint32_t values[] = {field->least - 1, field->least, field->least + 1, field->most - 1, field->most,
+                               field->most + 1,  UINT16_MAX,   UINT16_MAX + 1,   UINT32_MAX,      0};
 
     for (size_t i = 0; i < sizeof values / sizeof values[0]; i++) {
         set_field(&desk, field, values[i]);
@@ -372,7 +372,7 @@ static void compare_other_desks(struct dice *dice)
 
         for (const struct field *field = desk_fields; field < desk_fields + DESK_FIELDS; field++) {
             const uint32_t own = get_field(&desk, field);
-            const uint32_t values[] = {own - 1,     own,         own + 1,         own ^ 1u << 16, field->least - 1,
+            const uint32_t values[] = {own - 1,      own,         own + 1,         own ^ 1u << 16, field->least - 1,
                                        field->least, field->most, field->most + 1, UINT16_MAX,     0};
 
             for (size_t i = 0; i < sizeof values / sizeof values[0]; i++)
@@ -386,7 +386,7 @@ static void compare_other_desks(struct dice *dice)
  * deceleration, a curve's value is the largest w with 5 * w * w <= 5 * V0 * V0 - r * E, or the target T.
  */
 
-/* No limit of the card but its target of Stop is in the way of a curve up to 1600. */
+/* But for the set speed no limit of the card is in the way of a curve up to 1600. */
 static foldharbor_card curve_card(uint16_t set, uint16_t tolerance, uint16_t stop, uint16_t deceleration)
 {
     return (foldharbor_card){
@@ -482,7 +482,7 @@ static void compare_values(void)
     }
 }
 
-/* A new code goes by the value of the old curve before this tick's way: 2560000 - 1560000 is 1000 * 1000. */
+/* A new code goes by the old curve without this tick's speed: 1600 * 1600 - 1560000 is 1000 * 1000. */
 static void compare_old_value(void)
 {
     foldharbor_desk desk = desk_on_curve(curve_card(MOST_SPEED, 0, 0, 5), CODE_FORTY, 1600, 1560000);
