@@ -47,15 +47,16 @@ else
 fi
 # shellcheck disable=SC2086
 set -- -std=c11 -O2 -Wall -Wextra -Wpedantic ${CFLAGS-} "$@" -o "$out"
+# libm is for the root in host/tests/model.c: the archive needs no library
 if [ "$machine" = x86_64 ]; then
     # shellcheck disable=SC2086
-    exec $compiler "$@"
+    exec $compiler "$@" -lm
 fi
 
-# Elsewhere the program is made for x86-64 too, with the machine's headers and the kit's start files and libc.
+# Elsewhere the program is made for x86-64 too, with the machine's headers and the kit's start files, libc and libm.
 libraries=$(kit)/lib
 # shellcheck disable=SC2086
 exec $compiler --target=x86_64-linux-gnu -fuse-ld=lld -nostdlib -pie -fPIC -DEMULATED \
     -isystem "/usr/include/$machine-linux-gnu" "$@" \
     "$libraries/Scrt1.o" "$libraries/crti.o" "$libraries/crtbeginS.o" \
-    "$libraries/libc.so.6" "$libraries/libc_nonshared.a" "$libraries/crtendS.o" "$libraries/crtn.o"
+    "$libraries/libm.so.6" "$libraries/libc.so.6" "$libraries/libc_nonshared.a" "$libraries/crtendS.o" "$libraries/crtn.o"

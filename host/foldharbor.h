@@ -64,10 +64,11 @@ extern "C" {
 #endif
 
 /*
- * The version of this header, 1.1.0: 10,000 times the first number, 100 times the second, and the third. The call
- * returns the archive's. The first numbers of the two have to be the same: otherwise the structs may differ.
+ * The version of this header, 2.0.0: 10,000 times the first number, 100 times the second, and the third. The call
+ * returns the archive's. The first numbers of the two have to be the same: otherwise the structs may differ. With 2 the
+ * desk's curve has driven in place of age, and desk and outcome are longer.
  */
-#define FOLDHARBOR_VERSION 10100
+#define FOLDHARBOR_VERSION 20000
 uint32_t foldharbor_version(void);
 
 /*
@@ -190,8 +191,9 @@ typedef struct foldharbor_sample {
 /*
  * How the permitted speed P comes about: it is the least of the card's design, set and highest speed, the mode's
  * ceiling and, in PRE, the signal speed. The signal speed is T, but for two cases:
- * - A new code with a T below the old signal speed begins a braking curve, which falls from the old signal speed,
- *   whatever P is, by the card's deceleration down to T. So P may stand for a while though the curve runs.
+ * - A new code with a T below the old signal speed begins a braking curve. It falls from the old signal speed, whatever
+ *   P is, down to T, so P may stand for a while though the curve runs. It falls by the distance driven, as the speed of
+ *   a train that brakes by the card's deceleration: while the train stands the curve stands.
  * - MAN, where the driver brakes on his own responsibility, begins by a press of MAN or by adhesion loss while a curve
  *   runs, which it ends; and where the code after more than 5 s without one has a lower T than the code before those
  *   has without PLUS, and then no curve begins. The signal speed is then the train's speed as it falls, and not below
@@ -245,9 +247,13 @@ typedef struct foldharbor_codes {
     uint8_t raise;       /* presses of PLUS that count under code "40 and warning" (0 to 4) */
 } foldharbor_codes;
 
+/*
+ * While a curve runs the signal speed is the largest w with 5 * w * w <= 5 * start * start - deceleration * driven, the
+ * deceleration being the card's. Where that is not above T the curve ends.
+ */
 typedef struct foldharbor_curve {
     uint16_t start;   /* speed that the braking curve starts from; 0: no curve (0 to 2500) */
-    uint16_t age;     /* in ticks (0 to 5000) */
+    uint32_t driven;  /* the sum of v since it began, its first tick's apart, in units of 1/360 m (0 to 6250000) */
     uint8_t prompted; /* whether its prompt of kind 1 was given (0 to 1) */
 } foldharbor_curve;
 
@@ -289,8 +295,8 @@ typedef struct foldharbor_desk {
  * answer of zeros. So a host always goes on with the desk, and sets the valve by desk.state.causes, which a refused
  * reading leaves as it was.
  *
- * A refused tick did not happen: no time passes on the desk, and prompts and curves stand still. A host whose ticks
- * stay refused, by bad readings or by a full journal, opens the valve by itself.
+ * A refused tick did not happen: on the desk no time passes and no distance is driven, so prompts and curves stand
+ * still. A host whose ticks stay refused, by bad readings or by a full journal, opens the valve by itself.
  */
 typedef struct foldharbor_outcome {
     foldharbor_desk desk;

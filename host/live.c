@@ -39,7 +39,7 @@ enum {
 
 enum { /* of the made-up train: by how much its speed changes in a tick, in tenths of km/h */
     GAIN = 6,
-    LOSS_BY_DRIVER = 8,
+    LOSS_BY_DRIVER = 9,
     LOSS_BY_VALVE = 12
 };
 
@@ -64,9 +64,9 @@ struct part {
 static const struct part parts[] = {
     {20, FOLDHARBOR_CODE_CLEAR, "Clear", 0},
     {240, FOLDHARBOR_CODE_CLEAR, "Clear", 1200},
-    {300, FOLDHARBOR_CODE_WARNING, "Warning", 1130},
-    {430, FOLDHARBOR_CODE_FORTY, "40 and warning", 1130},
-    {450, FOLDHARBOR_CODE_STOP, "Stop", 1130},
+    {300, FOLDHARBOR_CODE_WARNING, "Warning", 1200},
+    {430, FOLDHARBOR_CODE_FORTY, "40 and warning", 1200},
+    {450, FOLDHARBOR_CODE_STOP, "Stop", 1200},
     {DRIVE_TICKS, FOLDHARBOR_CODE_STOP, "Stop", 0},
 };
 

@@ -7,6 +7,9 @@ set -o pipefail
 live() { sh host/run.sh target/host/live "$@"; }
 
 live --fast <tests/live.keys | uniq -f 3 | diff - tests/live.txt || miss "live.keys gives other lines"
+# before the step back it stands on a curve for 17 ticks
+live --fast <tests/live.keys | sed -n '1,/^back/p' | awk '$2 == "0.0" && / curve/ {print $3}' | sort | uniq -c | tr -s ' ' | diff - <(echo " 17 120.1") ||
+    miss "a train that stands does not keep its curve"
 
 # a minute with a press every 5 s, as it is, and with something that is struck or refused in between; tick 151 and the first have no key
 keys=$(printf '.................................................v%.0s' {1..12} | tr v ' ')

@@ -122,13 +122,54 @@ static void make_exercise(uint32_t runs, uint32_t ticks)
     exercise_length = generate_exercise(&dice, 1, runs, ticks, exercise);
 }
 
-/* PRE is taken at a stand only, so one run in PRE stands throughout: a curve, then a stand too long. */
+/* PRE is taken at a stand only, so one run in PRE stands throughout: on a curve, which stays, and at last too long. */
 static void make_one_run(void)
 {
     static const uint8_t record[] = {0, 0, CODE_STOP, MODE_PRE, 1, FLAG_CAB_ON, BRAKES_RELEASED, 0};
 
     make_exercise(1, FOLDHARBOR_MOST_TICKS);
     memcpy(exercise + HEADER_BYTES + CARD_BYTES + RECORD_IN_RUN, record, sizeof record);
+}
+
+/*
+ * A train on a long curve, from Clear's 1600 down to Stop by the least deceleration. At 300 it is slow enough to be on
+ * the curve to the last tick and never near it, so that nearly each tick asks for two values of the curve: here, ahead.
+ */
+static void make_curve(void)
+{
+    static const struct card long_curve = {
+        .design = 1600,
+        .set = 1600,
+        .highest = 1600,
+        .pos_ceiling = 400,
+        .zav_ceiling = 1000,
+        .tolerance = 30,
+        .stop_target = 0,
+        .deceleration = 5,
+        .cycle = 200,
+        .wait = 250,
+    };
+    static const struct record under_clear = {0, CODE_CLEAR, MODE_PRE, 1, FLAG_CAB_ON, BRAKES_RELEASED, 0};
+    static const struct record under_stop = {300, CODE_STOP, MODE_PRE, 1, FLAG_CAB_ON, BRAKES_RELEASED, 1};
+    uint8_t *run = exercise + HEADER_BYTES + CARD_BYTES;
+
+    make_exercise(2, FOLDHARBOR_MOST_TICKS);
+    model_write_card(exercise + HEADER_BYTES, &long_curve);
+    write_half(run, 1);
+    model_write_record(run + RECORD_IN_RUN, &under_clear);
+    write_half(run + RUN_BYTES, FOLDHARBOR_MOST_TICKS - 1);
+    model_write_record(run + RUN_BYTES + RECORD_IN_RUN, &under_stop);
+}
+
+/* Whether the curve runs from the second tick to the last. */
+static bool curve_lasts(void)
+{
+    const uint8_t *marks = answers_of_call + FOLDHARBOR_ANSWER_BYTES + FOLDHARBOR_ANSWER_MARKS;
+
+    for (; marks < answers_of_call + sizeof answers_of_call; marks += FOLDHARBOR_ANSWER_BYTES)
+        if (!(*marks & FOLDHARBOR_MARK_CURVE))
+            return false;
+    return true;
 }
 
 static void drive_by_call(void)
@@ -243,6 +284,10 @@ int main(int count, char **arguments)
     if (!same_runs())
         return differ();
     measure("7,200 ticks in one run, a tick:", run_by_call, run_by_model, CALLS_A_TURN, FOLDHARBOR_MOST_TICKS);
+    make_curve();
+    if (!same_runs() || !curve_lasts())
+        return differ();
+    measure("7,200 ticks on a curve, moving, a tick:", run_by_call, run_by_model, CALLS_A_TURN, FOLDHARBOR_MOST_TICKS);
     make_drive();
     if (!same_drives())
         return differ();

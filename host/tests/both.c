@@ -5,6 +5,7 @@
 #include <stdio.h>
 #include <string.h>
 
+#include "bytes.h"
 #include "fields.h"
 #include "model.h"
 #include "seen.h"
@@ -43,6 +44,7 @@ static uint64_t refusals_seen[CALLS][UINT8_MAX + 1]; /* by number; 0 counts what
 static uint64_t reasons_seen[FOLDHARBOR_CAUSES];     /* that were given, by cause */
 static uint64_t at_once_seen[FOLDHARBOR_CAUSES + 1]; /* by how many were given */
 static uint64_t from_first_tick_seen;
+static uint64_t curves_kept_seen, curves_ended_seen, far_driven_seen; /* ticks */
 
 static void print_desk(const foldharbor_desk *desk, size_t fields)
 {
@@ -193,6 +195,17 @@ static void compare_lent(void)
     compare_sentinels();
 }
 
+/* A curve may run on at a stand, may come to its end by what is driven, and may have driven more than 16 bits tell. */
+static void tally_curve(const foldharbor_signal *before, const foldharbor_signal *after)
+{
+    bool same_code = before->codes.last == after->codes.last;
+    bool runs_on = before->curve.start > 0 && after->curve.start > 0 && same_code;
+
+    curves_kept_seen += runs_on && read_half(journal_record(handed.desk.n)) == 0;
+    curves_ended_seen += before->curve.start > 0 && after->curve.start == 0 && same_code && after->man == 0;
+    far_driven_seen += runs_on && after->curve.driven > UINT16_MAX;
+}
+
 static void tally_outcome(const foldharbor_outcome *outcome)
 {
     refusals_seen[handed.call][outcome->refusal]++;
@@ -203,6 +216,8 @@ static void tally_outcome(const foldharbor_outcome *outcome)
 
     tally_ticks(state->mode, state->signal.codes.last, 1);
     tally_answer(answer->marks, answer->causes, answer->lowest, answer->held);
+    if (state->mode == FOLDHARBOR_MODE_PRE && handed.desk.state.mode == FOLDHARBOR_MODE_PRE)
+        tally_curve(&handed.desk.state.signal, &state->signal);
 }
 
 static void tally_reasons(const foldharbor_reasons *reasons)
@@ -353,5 +368,8 @@ bool report_seen_in_calls(void)
     all &= report_reasons();
     printf("accepted ticks:\n");
     all &= report_ticks();
+    all &= report_seen("curve kept at a stand", curves_kept_seen);
+    all &= report_seen("curve driven to its end", curves_ended_seen);
+    all &= report_seen("curve beyond 65,535", far_driven_seen);
     return all;
 }

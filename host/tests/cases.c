@@ -149,8 +149,8 @@ static void compare_judgement(struct dice *dice, foldharbor_desk desk, bool in_r
 /* The desk with the field at the ends of its range, next to them, and far out. */
 static void compare_field(struct dice *dice, foldharbor_desk desk, const struct field *field)
 {
-    const uint32_t values[] = {field->least - 1, field->least,    field->least + 1, field->most - 1,
-                               field->most,      field->most + 1, UINT16_MAX,       0};
+    const uint32_t values[] = {field->least - 1, field->least, field->least + 1, field->most - 1, field->most,
+                               field->most + 1,  UINT16_MAX,   UINT16_MAX + 1,   UINT32_MAX,      0};
 
     for (size_t i = 0; i < sizeof values / sizeof values[0]; i++) {
         set_field(&desk, field, values[i]);
@@ -372,13 +372,219 @@ static void compare_other_desks(struct dice *dice)
 
         for (const struct field *field = desk_fields; field < desk_fields + DESK_FIELDS; field++) {
             const uint32_t own = get_field(&desk, field);
-            const uint32_t values[] = {
-                own - 1, own, own + 1, field->least - 1, field->least, field->most, field->most + 1, UINT16_MAX, 0};
+            const uint32_t values[] = {own - 1,      own,         own + 1,         own ^ 1u << 16, field->least - 1,
+                                       field->least, field->most, field->most + 1, UINT16_MAX,     0};
 
             for (size_t i = 0; i < sizeof values / sizeof values[0]; i++)
                 compare_other_desk(desk, field, values[i], LENGTH);
         }
     }
+}
+
+/*
+ * Curves. What has to come of them is worked out by hand: with V0 the curve's start, E what is driven and r the card's
+ * deceleration, a curve's value is the largest w with 5 * w * w <= 5 * V0 * V0 - r * E, or the target T.
+ */
+
+/* But for the set speed no limit of the card is in the way of a curve up to 1600. */
+static foldharbor_card curve_card(uint16_t set, uint16_t tolerance, uint16_t stop, uint16_t deceleration)
+{
+    return (foldharbor_card){
+        .design = MOST_SPEED,
+        .set = set,
+        .highest = MOST_SPEED,
+        .pos = MOST_SPEED,
+        .zav = MOST_SPEED,
+        .tolerance = tolerance,
+        .stop = stop,
+        .deceleration = deceleration,
+        .cycle = 600,
+        .wait = 1000,
+    };
+}
+
+/* A tick in PRE, with cab and lever as they should be. */
+static foldharbor_outcome curve_tick(foldharbor_desk desk, uint8_t code, uint32_t speed, size_t length)
+{
+    foldharbor_sample sample = {
+        .speed = (float)speed / 36,
+        .pressure = 5,
+        .code = code,
+        .mode = MODE_PRE,
+        .lever = 1,
+        .flags = FLAG_CAB_ON,
+        .sense = 1,
+    };
+
+    return both_tick(desk, sample, length);
+}
+
+static foldharbor_desk desk_on_curve(foldharbor_card card, uint8_t code, uint16_t start, uint32_t driven)
+{
+    foldharbor_desk desk = both_open(card).desk;
+
+    desk.state.mode = MODE_PRE;
+    desk.state.signal.codes.last = code;
+    desk.state.signal.curve = (foldharbor_curve){.start = start, .driven = driven};
+    return desk;
+}
+
+/* A tick of an older curve: its value, or the end of the curve, which is at T then. */
+static void compare_values(void)
+{
+    static const struct {
+        uint16_t deceleration, stop, start;
+        uint8_t code;
+        uint32_t driven, speed, wanted_driven, wanted_permitted;
+        bool ends;
+        const char *otherwise;
+    } ticks[] = {
+        {18, 0, 1600, CODE_WARNING, 310443, 1, 310444, 1201, false, "Clear to Warning is not 1201 at 310,444"},
+        {18, 0, 1600, CODE_WARNING, 310444, 1, 0, 1200, true, "Clear to Warning does not end at 310,445"},
+        {18, 0, 1600, CODE_STOP, 65535, 1, 65536, 1524, false, "Clear to Stop is not 1524 at 65,536"},
+        {18, 0, 1600, CODE_STOP, 711109, 1, 711110, 2, false, "Clear to Stop is not 2 at 711,110"},
+        {18, 0, 1600, CODE_STOP, 711110, 1, 0, 0, true, "Clear to Stop does not end at 711,111"},
+        /* 1600 * 1600 - 1560000 is 1000 * 1000 */
+        {5, 0, 1600, CODE_STOP, 1559000, 1000, 1560000, 1000, false, "a curve at a square is below it"},
+        {5, 0, 1600, CODE_STOP, 1559001, 1000, 1560001, 999, false, "a curve just below a square is at it"},
+        /* 1600 * 1600 - 2399199 is 401 * 401, and 1201 * 1201 - 8 * 160200 is too */
+        {5, 400, 1600, CODE_STOP, 2399199, 0, 2399199, 401, false, "a curve ends above its target"},
+        {5, 400, 1600, CODE_STOP, 2399199, 1, 0, 400, true, "a curve goes on at its target"},
+        {40, 400, 1201, CODE_STOP, 160100, 100, 160200, 401, false, "a curve ends above its target"},
+        {40, 400, 1201, CODE_STOP, 160101, 100, 0, 400, true, "a curve goes on at its target"},
+        /* what is driven goes beyond its range inside of the tick, and the curve ends */
+        {5, 0, 2500, CODE_STOP, 6249999, 0, 6249999, 1, false, "the longest curve ends early"},
+        {5, 0, 2500, CODE_STOP, 6249998, 1, 6249999, 1, false, "the longest curve ends early"},
+        {5, 0, 2500, CODE_STOP, 6249999, 1, 0, 0, true, "the longest curve goes on"},
+        {5, 0, 2500, CODE_STOP, 6250000, 0, 0, 0, true, "a curve goes on at the end of its range"},
+        {5, 0, 2500, CODE_STOP, 6250000, 2500, 0, 0, true, "a curve goes on beyond the end of its range"},
+        {40, 0, 2500, CODE_STOP, 6250000, 2500, 0, 0, true, "a curve goes on beyond the end of its range"},
+        {40, 0, 1, CODE_STOP, 6250000, 2500, 0, 0, true, "a curve goes on far behind its end"},
+        {5, 0, 1, CODE_STOP, 0, 0, 0, 1, false, "the lowest curve ends early"},
+        {5, 0, 1, CODE_STOP, 0, 1, 0, 0, true, "the lowest curve goes on"},
+        /* T above V0, at it and just below it */
+        {5, 0, 1000, CODE_WARNING, 0, 0, 0, 1200, true, "a curve goes on below its target"},
+        {40, 0, 1, CODE_CLEAR, 6250000, 2500, 0, 1600, true, "a curve goes on below its target"},
+        {5, 0, 1200, CODE_WARNING, 0, 0, 0, 1200, true, "a curve goes on at its target"},
+        {5, 0, 1201, CODE_WARNING, 0, 0, 0, 1201, false, "a curve ends above its target"},
+        {5, 0, 1201, CODE_WARNING, 0, 1, 0, 1200, true, "a curve goes on at its target"},
+    };
+
+    for (size_t i = 0; i < sizeof ticks / sizeof ticks[0]; i++) {
+        foldharbor_card card = curve_card(MOST_SPEED, 0, ticks[i].stop, ticks[i].deceleration);
+        foldharbor_desk desk = desk_on_curve(card, ticks[i].code, ticks[i].start, ticks[i].driven);
+        foldharbor_outcome outcome = curve_tick(desk, ticks[i].code, ticks[i].speed, RECORD_BYTES);
+        const foldharbor_curve *curve = &outcome.desk.state.signal.curve;
+
+        expect(curve->start == (ticks[i].ends ? 0 : ticks[i].start) && curve->driven == ticks[i].wanted_driven &&
+                   outcome.answer.permitted == ticks[i].wanted_permitted,
+               ticks[i].otherwise);
+    }
+}
+
+/* A new code goes by the old curve without this tick's speed: 1600 * 1600 - 1560000 is 1000 * 1000. */
+static void compare_old_value(void)
+{
+    foldharbor_desk desk = desk_on_curve(curve_card(MOST_SPEED, 0, 0, 5), CODE_FORTY, 1600, 1560000);
+    foldharbor_curve curve = curve_tick(desk, CODE_STOP, MOST_SPEED, RECORD_BYTES).desk.state.signal.curve;
+
+    expect(curve.start == 1000 && curve.driven == 0, "a curve follows another from elsewhere");
+    desk.state.signal.curve.driven++;
+    curve = curve_tick(desk, CODE_STOP, MOST_SPEED, RECORD_BYTES).desk.state.signal.curve;
+    expect(curve.start == 999 && curve.driven == 0, "a curve follows another from elsewhere");
+}
+
+/* The prompt of kind 1: at the first of the two distances no more than the tolerance too fast, at the next more. */
+static void compare_nearing(void)
+{
+    static const struct {
+        uint16_t set, tolerance, deceleration;
+        uint32_t speed, not_yet;
+    } trains[] = {
+        {1400, 30, 18, 1200, 210861},
+        {1400, 30, 18, 1400, 49750},
+        /* 2560000 - 1460000 - 100 * 1000 is 1000 * 1000, and so is 2560000 - 1410000 - 150 * 1000 */
+        {1001, 0, 5, 1000, 1460000},
+        {1000, 0, 5, 1000, 1410000},
+    };
+
+    for (size_t i = 0; i < sizeof trains / sizeof trains[0]; i++) {
+        foldharbor_card card = curve_card(trains[i].set, trains[i].tolerance, 0, trains[i].deceleration);
+
+        for (uint32_t more = 0; more <= 1; more++) {
+            foldharbor_desk desk = desk_on_curve(card, CODE_STOP, 1600, trains[i].not_yet + more - trains[i].speed);
+            foldharbor_state state = curve_tick(desk, CODE_STOP, trains[i].speed, RECORD_BYTES).desk.state;
+
+            expect(state.signal.curve.driven == trains[i].not_yet + more && state.signal.curve.prompted == more &&
+                       state.prompt.ticks == more && state.prompt.kind == more,
+                   "a train nears a curve elsewhere");
+        }
+    }
+}
+
+/* The prompt of a curve's start: up to this speed the curve is out of reach for long. */
+static void compare_starts(void)
+{
+    static const struct {
+        uint16_t set;
+        uint32_t speed;
+    } trains[] = {
+        {1001, 1503}, /* 1503 * (1503 + 199) is 2558106 and below 2560000, 1504 * (1504 + 199) is 2561312 */
+        {1000, 1480}, /* 1480 * (1480 + 249) is 2558920, 1481 * (1481 + 249) is 2562130 */
+    };
+
+    for (size_t i = 0; i < sizeof trains / sizeof trains[0]; i++) {
+        foldharbor_desk desk = desk_on_curve(curve_card(trains[i].set, 0, 0, 5), CODE_CLEAR, 0, 0);
+
+        for (uint32_t more = 0; more <= 1; more++) {
+            foldharbor_state state = curve_tick(desk, CODE_STOP, trains[i].speed + more, RECORD_BYTES).desk.state;
+
+            expect(state.signal.curve.start == 1600 && state.signal.curve.driven == 0 &&
+                       state.prompt.ticks == 1 - more && state.prompt.kind == 0,
+                   "the start of a curve is prompted at other speeds");
+        }
+    }
+}
+
+/* A stand of some minutes leaves a curve as it is; then it falls by what is driven, and a step back takes that away. */
+static void compare_stand_on_curve(struct dice *dice)
+{
+    enum { STAND = 3000, MOVED = 10, SPEED = 120, TICKS = 2 + STAND + MOVED };
+    foldharbor_outcome outcome = both_open(some_card(dice));
+
+    lay_journal(RECORD_BYTES * TICKS, 0);
+    outcome = curve_tick(outcome.desk, CODE_CLEAR, 0, RECORD_BYTES * TICKS);
+    outcome = curve_tick(outcome.desk, CODE_STOP, 0, RECORD_BYTES * TICKS);
+
+    const uint16_t permitted = outcome.answer.permitted;
+
+    for (uint32_t ticks = STAND; ticks > 0; ticks--) {
+        outcome = curve_tick(outcome.desk, CODE_STOP, 0, RECORD_BYTES * TICKS);
+        expect(outcome.desk.state.signal.curve.start == 1600 && outcome.desk.state.signal.curve.driven == 0 &&
+                   outcome.answer.permitted == permitted,
+               "a curve falls while the train stands");
+    }
+    for (uint32_t ticks = MOVED; ticks > 0; ticks--)
+        outcome = curve_tick(outcome.desk, CODE_STOP, SPEED, RECORD_BYTES * TICKS);
+    expect(outcome.desk.state.signal.curve.driven == MOVED * SPEED, "a curve goes by another distance");
+    outcome = both_step_back(outcome.desk, MOVED, RECORD_BYTES * TICKS);
+    expect(outcome.desk.state.signal.curve.driven == 0 && outcome.answer.permitted == permitted,
+           "a step back leaves what was driven");
+}
+
+static void compare_curves(struct dice *dice)
+{
+    lay_journal(RECORD_BYTES, 0);
+    compare_values();
+    compare_old_value();
+    compare_nearing();
+    compare_starts();
+
+    foldharbor_desk desk = desk_on_curve(curve_card(MOST_SPEED, 0, 0, 5), CODE_STOP, 2500, 6250001);
+
+    expect(curve_tick(desk, CODE_STOP, 0, RECORD_BYTES).refusal == REFUSED_DESK, "too much is driven on a curve");
+    for (uint32_t times = 0; times < 4; times++)
+        compare_stand_on_curve(dice);
 }
 
 /* Journals of all lengths. */
@@ -565,6 +771,7 @@ void compare_cases(struct dice *dice)
     compare_other_desks(dice);
     for (uint32_t times = 0; times < 40; times++)
         compare_five_causes(dice);
+    compare_curves(dice);
     compare_short_journals(dice);
     compare_long_journals(dice);
     compare_bad_records(dice);

@@ -26,7 +26,8 @@ enum {
     SENTINELS = 63, /* before and behind a buffer, and behind a file; odd, so that no buffer starts aligned */
     LONGEST_BUFFER = FOLDHARBOR_ANSWER_BYTES * (FOLDHARBOR_MOST_TICKS + 8),
     LONGEST_FILE = 1 << 17, /* twice what a file's 16-bit total can say */
-    ANSWERS_AREA = SENTINELS + LONGEST_BUFFER + SENTINELS
+    ANSWERS_AREA = SENTINELS + LONGEST_BUFFER + SENTINELS,
+    LONG_STAND = 300 /* ticks */
 };
 
 static uint8_t exercise[LONGEST_FILE];
@@ -42,6 +43,7 @@ static bool exercise_differs;
 
 static uint64_t refusals_seen[16]; /* by number; 0 counts what was accepted */
 static uint64_t reader_refusals_seen[UINT8_MAX + 1];
+static uint64_t stands_seen; /* long runs at a stand, on a curve from their first tick to their last */
 
 /* Goes by the records alone: the desk takes the mode asked for where the train stands. */
 static void tally_records(void)
@@ -56,6 +58,27 @@ static void tally_records(void)
         if (read_half(record) == 0)
             mode = record[3];
         tally_ticks(mode, record[2], read_half(run));
+    }
+}
+
+static bool is_on_curve(const uint8_t *answer)
+{
+    return answer[FOLDHARBOR_ANSWER_MARKS] & FOLDHARBOR_MARK_CURVE;
+}
+
+static void tally_stands(void)
+{
+    uint32_t runs = read_half(exercise + 2);
+    const uint8_t *run = exercise + read_half(exercise + 6);
+    const uint8_t *first = answers_of_call + SENTINELS; /* answer of the run */
+
+    for (; runs > 0; runs--, run += RUN_BYTES) {
+        uint32_t ticks = read_half(run);
+        const uint8_t *next = first + (size_t)FOLDHARBOR_ANSWER_BYTES * ticks;
+
+        stands_seen += ticks >= LONG_STAND && read_half(run + RECORD_IN_RUN) == 0 && is_on_curve(first) &&
+                       is_on_curve(next - FOLDHARBOR_ANSWER_BYTES);
+        first = next;
     }
 }
 
@@ -76,6 +99,7 @@ static void tally(uint32_t returned)
     }
     refusals_seen[0]++;
     tally_records();
+    tally_stands();
     tally_answers(returned);
 }
 
@@ -97,6 +121,8 @@ static bool report_all_seen(void)
     all &= report_seen("refused 9", reader_refusals_seen[9]);
     all &= report_seen("refused 10", reader_refusals_seen[10]);
     all &= report_seen("refused 11", reader_refusals_seen[11]);
+    printf("runs:\n");
+    all &= report_seen("long stand on a curve", stands_seen);
     printf("ticks:\n");
     all &= report_ticks();
     return all;

@@ -23,16 +23,18 @@ enum { /* by the rules */
        REFUSED_OTHER = 23
 };
 
-enum { DEFAULT_SEED = 7200, DEFAULT_COUNT = 6000, MEAN_RUN = 6, MOST_RUN = 700 };
+enum { DEFAULT_SEED = 7200, DEFAULT_COUNT = 6000, MEAN_RUN = 6, MOST_RUN = 700, LONG_STAND = 300 /* ticks */ };
 
 static uint64_t seed, drives;
 static uint64_t held_again_seen; /* causes that were let go and came again, where why was asked */
+static uint64_t stands_seen;     /* long ones on a curve */
 
 struct drive {
     struct dice *dice;
     struct driver driver;
     size_t length; /* of the journal */
     foldharbor_desk desk;
+    uint32_t stood; /* ticks on a curve, up to the last one */
 };
 
 /* What the calls gave after so many ticks of the drive: what a step back to there has to give again. */
@@ -64,8 +66,11 @@ static struct drive begin_drive(struct dice *dice, size_t length)
 static bool tick(struct drive *drive)
 {
     foldharbor_outcome outcome = both_tick(drive->desk, sample_of(drive->dice, &drive->driver.record), drive->length);
+    bool stands = drive->driver.record.speed == 0 && outcome.desk.state.signal.curve.start > 0;
 
     go_on(drive, outcome);
+    drive->stood = stands ? drive->stood + 1 : 0;
+    stands_seen += drive->stood == LONG_STAND;
     return outcome.refusal == 0;
 }
 
@@ -266,6 +271,7 @@ int main(int count, char **arguments)
 
     printf("drives:\n");
     all_seen &= report_seen("why of one held again", held_again_seen);
+    all_seen &= report_seen("long stand on a curve", stands_seen);
 
     printf("%s\n", all_seen ? "everything listed was seen" : "something listed was never seen");
     printf("drives: %" PRIu64 " drives, %" PRIu64 " calls, %" PRIu64 " differ\n", drives, calls_made(), differences());

@@ -30,7 +30,7 @@ const struct field desk_fields[DESK_FIELDS] = {
     FIELD(state.signal.codes.gap, state.signal.gap, 0, 51),
     FIELD(state.signal.codes.raise, state.signal.raise, 0, 4),
     FIELD(state.signal.curve.start, state.signal.curve_start, 0, 2500),
-    FIELD(state.signal.curve.age, state.signal.curve_age, 0, 5000),
+    FIELD(state.signal.curve.driven, state.signal.curve_driven, 0, 6250000),
     FIELD(state.signal.curve.prompted, state.signal.lead_given, 0, 1),
     FIELD(state.signal.man, state.signal.man_speed, 0, 2500),
     FIELD(state.prompt.ticks, state.signal.prompt, 0, 35),
@@ -44,26 +44,18 @@ const struct field desk_fields[DESK_FIELDS] = {
 
 _Static_assert(sizeof(struct desk) == DESK_FIELDS * sizeof(uint32_t), "every field of the model's desk has its row");
 
+/* x86-64 has the low byte of a number first, whatever its size. */
 uint32_t get_field(const foldharbor_desk *desk, const struct field *field)
 {
-    const uint8_t *place = (const uint8_t *)desk + field->place;
-    uint16_t half;
+    uint32_t value = 0;
 
-    if (field->bytes == 1)
-        return *place;
-    memcpy(&half, place, sizeof half);
-    return half;
+    memcpy(&value, (const uint8_t *)desk + field->place, field->bytes);
+    return value;
 }
 
 void set_field(foldharbor_desk *desk, const struct field *field, uint32_t value)
 {
-    uint8_t *place = (uint8_t *)desk + field->place;
-    uint16_t half = value;
-
-    if (field->bytes == 1)
-        *place = value;
-    else
-        memcpy(place, &half, sizeof half);
+    memcpy((uint8_t *)desk + field->place, &value, field->bytes);
 }
 
 bool field_takes(const struct field *field, uint32_t value)

@@ -46,15 +46,44 @@ static uint32_t target_speed(const struct driver *driver)
     return read_half(driver->answer + 2);
 }
 
-/* The speed at which the tolerance above the running curve is reached after so many further ticks. */
-static uint32_t speed_at_curve(const struct driver *driver, uint32_t further)
+uint32_t end_of_curve(const struct card *card, uint32_t start, uint32_t target)
+{
+    return start > target ? 5 * (start * start - (target + 1) * (target + 1)) / card->deceleration : 0;
+}
+
+/* How far the running curve still goes. */
+static uint32_t left_of_curve(const struct driver *driver)
 {
     const struct signal *signal = &driver->state.signal;
-    uint32_t lost = (signal->curve_age + further) * driver->card.deceleration / 10;
-    uint32_t value = lost < signal->curve_start ? signal->curve_start - lost : 0;
-    uint32_t target = target_speed(driver);
+    uint32_t end = end_of_curve(&driver->card, signal->curve_start, target_speed(driver));
 
-    return (value > target ? value : target) + driver->card.tolerance;
+    return end > signal->curve_driven ? end - signal->curve_driven : 0;
+}
+
+/* Whether a train would be above the curve by more than the tolerance, so many ticks further at its speed. */
+static bool exceeds_curve(const struct driver *driver, uint32_t speed, uint32_t tolerance, uint32_t ticks)
+{
+    const struct signal *signal = &driver->state.signal;
+    uint32_t lost = driver->card.deceleration * (signal->curve_driven + speed * ticks);
+    uint32_t over = speed > tolerance ? speed - tolerance : 0; /* this has to be above the curve then */
+
+    return over > target_speed(driver) && 5 * over * over + lost > 5 * signal->curve_start * signal->curve_start;
+}
+
+/* The highest speed that would not: the higher a speed is, the further it leads, and the lower the curve is there. */
+static uint32_t speed_at_curve(const struct driver *driver, uint32_t tolerance, uint32_t ticks)
+{
+    uint32_t below = 0, above = MOST_SPEED + 1;
+
+    while (above - below > 1) {
+        uint32_t middle = (below + above) / 2;
+
+        if (exceeds_curve(driver, middle, tolerance, ticks))
+            above = middle;
+        else
+            below = middle;
+    }
+    return below;
 }
 
 /* A speed at which some rule of the tick to come turns; that tick is tried out first, for its curve and target. */
@@ -63,23 +92,35 @@ static uint32_t border_speed(const struct driver *before)
     static const uint32_t fixed[] = {1,   EASED_BELOW, 360,         400,         600,       720,
                                      800, 1000,        VYL_CEILING, PRE_CEILING, MOST_SPEED};
     uint32_t lead = before->card.set <= SLOW_SET ? LONG_LEAD : SHORT_LEAD;
+    uint32_t tolerance = before->card.tolerance;
+    uint32_t now = 0; /* ticks of this one's speed that a curve goes by: none where it begins */
     struct driver ahead = *before;
 
     model_tick(&ahead.card, &ahead.state, &ahead.record, ahead.answer);
-    switch (dice_roll(before->dice, 9)) {
+    if (before->record.code == before->state.signal.last_code) {
+        ahead.state.signal = before->state.signal;
+        now = 1;
+    }
+    switch (dice_roll(before->dice, 12)) {
     case 0:
         return permitted_speed(&ahead);
     case 1:
-        return permitted_speed(&ahead) + ahead.card.tolerance;
+        return permitted_speed(&ahead) + tolerance;
     case 2:
         return target_speed(&ahead);
     case 3:
-        return target_speed(&ahead) + ahead.card.tolerance;
+        return target_speed(&ahead) + tolerance;
     case 4:
-        return speed_at_curve(&ahead, lead);
+        return speed_at_curve(&ahead, 0, now);
     case 5:
-        return speed_at_curve(&ahead, lead + START_SPAN);
+        return speed_at_curve(&ahead, tolerance, now);
     case 6:
+        return speed_at_curve(&ahead, tolerance, now + lead);
+    case 7:
+        return speed_at_curve(&ahead, tolerance, lead + START_SPAN);
+    case 8:
+        return left_of_curve(&ahead);
+    case 9:
         return WARNING_ORDINARY_UP_TO;
     default:
         return fixed[dice_roll(before->dice, sizeof fixed / sizeof fixed[0])];
@@ -209,8 +250,8 @@ static uint32_t ticks_to_border(struct driver *driver)
         return ticks_up_to(card->wait, state->standing);
     case 6:
         return ticks_up_to(MOST_WRONG_WAY, state->wrong_way) / (speed + 1);
-    default:
-        return ticks_up_to(state->signal.curve_start * 10 / card->deceleration, state->signal.curve_age);
+    default: /* at a stand, in which a curve must not fall, for as long as to brake from its start would take */
+        return speed > 0 ? left_of_curve(driver) / speed : 10 * state->signal.curve_start / card->deceleration;
     }
 }
 

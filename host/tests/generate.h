@@ -26,6 +26,9 @@ struct driver {
 /* A card in range. */
 struct card generate_card(struct dice *dice);
 
+/* The last distance, in units of 1/360 m, at which a curve of this start is above the target; 0 if it never is. */
+uint32_t end_of_curve(const struct card *card, uint32_t start, uint32_t target);
+
 /* A driver in front of a fresh desk of the card. */
 struct driver generate_driver(struct dice *dice, const struct card *card);
 

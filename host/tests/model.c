@@ -1,6 +1,7 @@
 /* The rules of the desk, of its calls and of the exercise file in plain C. See model.h. */
 #include "model.h"
 
+#include <math.h>
 #include <stdbool.h>
 #include <string.h>
 
@@ -16,8 +17,9 @@ struct tick {
     bool new_code;
     bool man_before;
     bool curve_began;
-    uint32_t target;    /* (T) */
-    uint32_t permitted; /* (P) */
+    uint32_t target;      /* (T) */
+    uint32_t curve_speed; /* the value of the curve, if one runs */
+    uint32_t permitted;   /* (P) */
     bool cyclic_prompt;
     bool zs20;
     uint32_t triggered; /* causes */
@@ -47,20 +49,32 @@ static uint32_t target_of(const struct card *card, uint32_t code, uint32_t raise
     }
 }
 
-static uint32_t curve_value(const struct card *card, uint32_t start, uint32_t age, uint32_t target)
+/* The largest w with 5 * w * w <= bound. The root of the floats is next to it; whole numbers have the last word. */
+static uint32_t root_of_fifth(uint32_t bound)
 {
-    uint32_t lost = age * card->deceleration / 10;
+    uint32_t root = sqrt(bound / 5);
 
-    return larger(target, start - smaller(start, lost));
+    while (5 * root * root > bound)
+        root--;
+    while (5 * (root + 1) * (root + 1) <= bound)
+        root++;
+    return root;
 }
 
-static uint32_t signal_speed(const struct card *card, const struct signal *signal, uint32_t target)
+/* A curve falls as the speed of a train that brakes: its square loses as much over a distance wherever on the curve. */
+static uint32_t curve_value(const struct card *card, uint32_t start, uint32_t driven, uint32_t target)
+{
+    uint32_t begun_with = 5 * start * start;
+    uint32_t lost = card->deceleration * driven;
+
+    return root_of_fifth(larger(5 * target * target, begun_with - smaller(begun_with, lost)));
+}
+
+static uint32_t signal_speed(const struct signal *signal, uint32_t curve_speed, uint32_t target)
 {
     if (signal->man_speed > 0)
         return signal->man_speed;
-    if (signal->curve_start > 0)
-        return curve_value(card, signal->curve_start, signal->curve_age, target);
-    return target;
+    return signal->curve_start > 0 ? curve_speed : target;
 }
 
 static void begin_man(struct signal *signal, uint32_t speed)
@@ -71,7 +85,7 @@ static void begin_man(struct signal *signal, uint32_t speed)
 static void end_curve(struct signal *signal)
 {
     signal->curve_start = 0;
-    signal->curve_age = 0;
+    signal->curve_driven = 0;
     signal->lead_given = 0;
 }
 
@@ -101,7 +115,9 @@ static void step_2_code(struct tick *tick, struct signal *signal)
         return;
     }
 
-    uint32_t old_speed = signal_speed(card, signal, target_of(card, signal->last_code, signal->raise)); /* (S0) */
+    uint32_t old_target = target_of(card, signal->last_code, signal->raise);
+    uint32_t old_curve_speed = curve_value(card, signal->curve_start, signal->curve_driven, old_target);
+    uint32_t old_speed = signal_speed(signal, old_curve_speed, old_target); /* (S0) */
     uint32_t new_target = target_of(card, code, 0);
 
     signal->raise = 0;
@@ -143,13 +159,14 @@ static void step_4_man(const struct tick *tick, struct signal *signal)
         signal->man_speed = larger(TARGET_CAUTIOUS, smaller(signal->man_speed, tick->speed));
 }
 
-static void step_5_curve(const struct tick *tick, struct signal *signal)
+static void step_5_curve(struct tick *tick, struct signal *signal)
 {
     if (signal->curve_start == 0)
         return;
     if (!tick->curve_began)
-        signal->curve_age++;
-    if (curve_value(tick->card, signal->curve_start, signal->curve_age, tick->target) == tick->target) {
+        signal->curve_driven += tick->speed;
+    tick->curve_speed = curve_value(tick->card, signal->curve_start, signal->curve_driven, tick->target);
+    if (tick->curve_speed == tick->target) {
         end_curve(signal);
     } else if ((tick->pressed & FLAG_MAN) || (tick->record->flags & FLAG_ADHESION_LOSS)) {
         begin_man(signal, tick->speed);
@@ -168,7 +185,7 @@ static void step_6_permitted(struct tick *tick, const struct state *state)
         break;
     case MODE_PRE:
         permitted = smaller(permitted, PRE_CEILING);
-        permitted = smaller(permitted, signal_speed(card, &state->signal, tick->target));
+        permitted = smaller(permitted, signal_speed(&state->signal, tick->curve_speed, tick->target));
         break;
     case MODE_VYL:
         permitted = smaller(permitted, VYL_CEILING);
@@ -225,9 +242,9 @@ static void step_7_cyclic_vigilance(struct tick *tick, struct state *state)
     tick->cyclic_prompt = kind != VIGILANCE_NONE && state->vigilance_ticks >= cycle - PROMPT_TICKS;
 }
 
-static bool exceeds_curve_at(const struct tick *tick, const struct signal *signal, uint32_t age) /* (D) */
+static bool exceeds_curve_at(const struct tick *tick, const struct signal *signal, uint32_t driven) /* (D) */
 {
-    uint32_t value = curve_value(tick->card, signal->curve_start, age, tick->target);
+    uint32_t value = curve_value(tick->card, signal->curve_start, driven, tick->target);
 
     return tick->speed > value + tick->card->tolerance;
 }
@@ -244,11 +261,11 @@ static void step_8_one_time_vigilance(struct tick *tick, struct signal *signal)
     } else if (signal->curve_start > 0) {
         uint32_t lead = tick->card->set <= SLOW_SET ? LONG_LEAD : SHORT_LEAD; /* (R) */
 
-        if (!signal->lead_given && exceeds_curve_at(tick, signal, signal->curve_age + lead)) {
+        if (!signal->lead_given && exceeds_curve_at(tick, signal, signal->curve_driven + tick->speed * lead)) {
             signal->lead_given = 1;
             signal->prompt = 1;
             signal->prompt_kind = 1;
-        } else if (tick->curve_began && !exceeds_curve_at(tick, signal, START_SPAN + lead) &&
+        } else if (tick->curve_began && !exceeds_curve_at(tick, signal, tick->speed * (START_SPAN + lead)) &&
                    tick->speed > tick->target + tick->card->tolerance) {
             signal->prompt = 1;
             signal->prompt_kind = 0;
@@ -539,7 +556,7 @@ static uint32_t read_sample(const struct sample *sample, struct record *record)
 static bool signal_in_range(const struct signal *signal)
 {
     return signal->last_code <= CODE_CLEAR && signal->gap_code <= CODE_CLEAR && signal->gap <= LONG_GAP + 1 &&
-           signal->raise <= MOST_RAISE && signal->curve_start <= MOST_SPEED && signal->curve_age <= MOST_AGE &&
+           signal->raise <= MOST_RAISE && signal->curve_start <= MOST_SPEED && signal->curve_driven <= MOST_DRIVEN &&
            signal->man_speed <= MOST_SPEED && signal->lead_given <= 1 && signal->prompt <= PROMPT_TICKS &&
            signal->prompt_kind <= 1;
 }

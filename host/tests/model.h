@@ -43,14 +43,14 @@ enum {
     SLOW_SET = 1000,              /* up to this set speed the lead is the long one */
     LONG_LEAD = 150,
     SHORT_LEAD = 100,
-    START_SPAN = 99,              /* the start prompt is for a curve that stays out of reach for so long */
+    START_SPAN = 99,              /* the start prompt is for a curve that stays out of reach for so many ticks */
     MOST_WRONG_WAY = 3600,        /* 10 m */
     ZS20_TICKS = 100,
     BRAKES_RELEASED = 2           /* pressure band */
 };
 
 enum { /* what the desk may hold beyond what the rules name */
-    MOST_AGE = 5000,
+    MOST_DRIVEN = 6250000, /* the longest curve has lost all of its 5 * 2500 * 2500 by then */
     MOST_VIGILANCE_TICKS = 599,
     MOST_STANDING = 1000,
     MOST_CAUSES = 31
@@ -90,14 +90,14 @@ struct sample {
 /* What the desk holds for PRE alone: from the last code to the kind of the one-time prompt. */
 struct signal {
     uint32_t last_code;
-    uint32_t gap_code;    /* code before a gap (k) */
-    uint32_t gap;         /* ticks without code, 51 at most (g) */
-    uint32_t raise;       /* steps of PLUS under code 3 */
-    uint32_t curve_start; /* speed at its start, 0: no curve (V0) */
-    uint32_t curve_age;   /* (c) */
-    uint32_t man_speed;   /* 0: MAN off (M) */
-    uint32_t lead_given;  /* the curve's prompt of kind 1 was given (w) */
-    uint32_t prompt;      /* one-time prompt, 0: none (u) */
+    uint32_t gap_code;     /* code before a gap (k) */
+    uint32_t gap;          /* ticks without code, 51 at most (g) */
+    uint32_t raise;        /* steps of PLUS under code 3 */
+    uint32_t curve_start;  /* speed at its start, 0: no curve (V0) */
+    uint32_t curve_driven; /* sum of the speeds since, its first tick's apart, in units of 1/360 m (E) */
+    uint32_t man_speed;    /* 0: MAN off (M) */
+    uint32_t lead_given;   /* the curve's prompt of kind 1 was given (w) */
+    uint32_t prompt;       /* one-time prompt, 0: none (u) */
     uint32_t prompt_kind;
 };
 

@@ -222,8 +222,8 @@ foldharbor_card some_card(struct dice *dice)
 /* What the field takes: its least, next to an end or to a number of the rules, an end, or any. */
 static uint32_t some_value(struct dice *dice, const struct field *field)
 {
-    static const uint32_t numbers[] = {35,  50,  85,   100,  120,  150,  250,  360,
-                                       565, 900, 1000, 1200, 1400, 1600, 2500, 3600};
+    static const uint32_t numbers[] = {35,  50,   85,   100,  120,  150,  250,  360,  565,
+                                       900, 1000, 1200, 1400, 1600, 2500, 3600, 65536};
     uint32_t value;
 
     switch (dice_roll(dice, 8)) {
@@ -253,13 +253,26 @@ static uint32_t some_low_value(struct dice *dice, const struct field *field)
     return field_takes(field, value) ? value : field->least;
 }
 
+/* Puts a curve to where it is above the target of some code, mostly to where one more tick may bring it to its end. */
+static void put_curve_near_end(struct dice *dice, foldharbor_desk *desk)
+{
+    const struct desk seen = model_of_desk(desk);
+    const struct signal *signal = &seen.state.signal;
+    const uint32_t targets[] = {0, seen.card.stop_target, TARGET_FORTY + TARGET_STEP * signal->raise, TARGET_CAUTIOUS};
+    uint32_t target = targets[dice_roll(dice, sizeof targets / sizeof targets[0])];
+    uint32_t end = end_of_curve(&seen.card, signal->curve_start, target);
+    uint32_t most = end > MOST_SPEED && !dice_once_in(dice, 4) ? MOST_SPEED : end;
+
+    desk->state.signal.curve.driven = end - dice_roll(dice, most + 1);
+}
+
 /* Puts a count next to where the next tick may bring it to a border. */
 static void put_count_near_border(struct dice *dice, foldharbor_desk *desk)
 {
     foldharbor_state *state = &desk->state;
     uint32_t before = dice_roll(dice, 3);
 
-    switch (dice_roll(dice, 8)) {
+    switch (dice_roll(dice, 12)) {
     case 0:
         state->cyclic.kind = VIGILANCE_INCREASED;
         state->cyclic.ticks = INCREASED_FROM + 1 - before;
@@ -285,8 +298,11 @@ static void put_count_near_border(struct dice *dice, foldharbor_desk *desk)
     case 6:
         state->prompt.ticks = PROMPT_TICKS - before;
         break;
-    default:
+    case 7:
         state->signal.codes.gap = LONG_GAP + 1 - before;
+        break;
+    default:
+        put_curve_near_end(dice, desk);
         break;
     }
 }

@@ -17,6 +17,7 @@
 struct field {
     const char *name;
     size_t offset, size;
+    bool real;            /* a float */
     uint32_t least, most; /* in a card and in a desk */
 };
 
@@ -28,7 +29,9 @@ struct fields { /* of a struct */
     size_t padding;           /* how many of its bytes belong to no field; those of a desk's card too */
 };
 
-#define FIELD(type, member, least, most) {#member, offsetof(type, member), sizeof((type *)0)->member, least, most}
+#define FIELD(type, member, least, most)                                                                               \
+    {#member, offsetof(type, member), sizeof((type *)0)->member,                                                       \
+     _Generic(((type *)0)->member, float: true, default: false), least, most}
 #define CARD(member, least, most) FIELD(foldharbor_card, member, least, most)
 #define SAMPLE(member) FIELD(foldharbor_sample, member, 0, 0)
 #define ANSWER(member) FIELD(foldharbor_answer, member, 0, 0)
@@ -81,7 +84,7 @@ static struct field desk_fields[DESK_FIELDS] = { /* without its card */
     DESK(state.signal.codes.gap, 0, 51),
     DESK(state.signal.codes.raise, 0, 4),
     DESK(state.signal.curve.start, 0, 2500),
-    DESK(state.signal.curve.age, 0, 5000),
+    DESK(state.signal.curve.driven, 0, 6250000),
     DESK(state.signal.curve.prompted, 0, 1),
     DESK(state.signal.man, 0, 2500),
     DESK(state.prompt.ticks, 0, 35),
@@ -104,14 +107,14 @@ static struct field reasons_fields[REASONS_FIELDS] = {
 static const struct fields of_card = {"card", card_fields, CARD_FIELDS, sizeof(foldharbor_card), 20, 0};
 static const struct fields of_sample = {"sample", sample_fields, SAMPLE_FIELDS, sizeof(foldharbor_sample), 16, 3};
 static const struct fields of_answer = {"answer", answer_fields, ANSWER_FIELDS, sizeof(foldharbor_answer), 8, 0};
-static const struct fields of_desk = {"desk", desk_fields, DESK_FIELDS, sizeof(foldharbor_desk), 48, 20 + 3};
+static const struct fields of_desk = {"desk", desk_fields, DESK_FIELDS, sizeof(foldharbor_desk), 60, 20 + 13};
 static const struct fields of_counts = {"counts", counts_fields, COUNTS_FIELDS, sizeof(foldharbor_counts), 8, 1};
 static const struct fields of_place = {"place", place_fields, PLACE_FIELDS, sizeof(foldharbor_place), 6, 1};
 static const struct fields of_reasons = {"reasons", reasons_fields, REASONS_FIELDS, sizeof(foldharbor_reasons), 52, 1};
 static const struct fields *const structs[] = {&of_card,   &of_sample, &of_answer, &of_desk,
                                                &of_counts, &of_place,  &of_reasons};
 
-enum { STRUCTS = sizeof structs / sizeof structs[0], OUTCOME_BYTES = 48 + 8 + 1 + 1 };
+enum { STRUCTS = sizeof structs / sizeof structs[0], OUTCOME_BYTES = 60 + 8 + 1 + 3 };
 
 /* The card of the rows, and a fresh desk. */
 static const double card_numbers[CARD_FIELDS] = {1600, 1450, 1500, 400, 1000, 30, 50, 18, 200, 250};
@@ -125,62 +128,73 @@ struct row {
 };
 
 /*
- * Before and after, in the order of desk_fields: n, mode, buttons, last, interrupted, gap, raise, start, age, prompted,
- * man, the prompt's ticks and kind, the kind and ticks of cyclic vigilance, wrongway, standing, causes.
+ * Before and after, in the order of desk_fields: n, mode, buttons, last, interrupted, gap, raise, start, driven,
+ * prompted, man, the prompt's ticks and kind, the kind and ticks of cyclic vigilance, wrongway, standing, causes.
+ * driven is above 65,535 wherever it is not 0: it has more than 16 bits.
  */
 static const struct row rows[] = {
-    /* 1,500 - 101 * 1.8 is 1,319, and 1,000 + 360 is 1,360. PLUS counts under code 3 only, and no button lets go. */
-    {"a curve ages, a prompt and a cycle go on, the train moves against the lever",
-     {5, 2, 4, 1, 3, 20, 2, 1500, 100, 0, 0, 7, 1, 1, 50, 1000, 40, 18},
+    /*
+     * 360 are added to driven and to wrongway. 5 * 1,500 * 1,500 - 18 * 200,360 is 7,643,520: from 5 * 1,236 * 1,236,
+     * which is 7,638,480, and below 5 * 1,237 * 1,237. PLUS counts under code 3 only, and no button lets go.
+     */
+    {"a curve falls, a prompt and a cycle go on, the train moves against the lever",
+     {5, 2, 4, 1, 3, 20, 2, 1500, 200000, 0, 0, 7, 1, 1, 50, 1000, 40, 18},
      {10, 5, 1, 3, 1, 0x42, 2},
-     {6, 2, 2, 1, 3, 20, 2, 1500, 101, 0, 0, 8, 1, 1, 51, 1360, 0, 18},
-     {1319, 50, 0x1A, 18, 2, 2},
+     {6, 2, 2, 1, 3, 20, 2, 1500, 200360, 0, 0, 8, 1, 1, 51, 1360, 0, 18},
+     {1236, 50, 0x1A, 18, 2, 2},
      {0x68, 0x01, 1, 3, 1, 0x42, 2, 2}},
-    /* Step 4: the least of 1,400 and 1,300. Vigilance is held and no press, so the prompt comes at 120 - 35. */
+    /*
+     * Step 4: the least of 1,400 and 1,300. Vigilance is held and no press, so the prompt comes at 120 - 35. Without a
+     * curve driven stays, here at the end of its range.
+     */
     {"MAN goes on, increased vigilance, the lever agrees",
-     {6, 2, 1, 1, 2, 30, 3, 0, 200, 1, 1400, 0, 0, 2, 84, 500, 7, 1},
+     {6, 2, 1, 1, 2, 30, 3, 0, 6250000, 1, 1400, 0, 0, 2, 84, 500, 7, 1},
      {1300 / 36.0, 4, 1, 1, 2, 0x41, 2},
-     {7, 2, 1, 1, 2, 30, 3, 0, 200, 1, 1300, 0, 0, 2, 85, 0, 0, 1},
+     {7, 2, 1, 1, 2, 30, 3, 0, 6250000, 1, 1300, 0, 0, 2, 85, 0, 0, 1},
      {1300, 50, 0x05, 1, 1, 1},
      {0x14, 0x05, 1, 1, 2, 0x41, 1, 2}},
     /* Step 2: no raise, and a curve from Clear's 1,600. Step 3 adds a raise. Step 8: the prompt of a curve's start. */
     {"a new code begins a curve, PLUS raises",
-     {7, 2, 0, 4, 0, 0, 4, 0, 77, 1, 0, 0, 1, 1, 90, 20, 9, 4},
+     {7, 2, 0, 4, 0, 0, 4, 0, 0x123456, 1, 0, 0, 1, 1, 90, 20, 9, 4},
      {1200 / 36.0, 5, 3, 2, 1, 0x42, 1},
      {8, 2, 2, 3, 0, 0, 1, 1600, 0, 0, 0, 1, 0, 2, 0, 0, 0, 4},
      {1450, 600, 0x0A, 4, 3, 1},
      {0xB0, 0x04, 3, 2, 1, 0x42, 2, 1}},
     /* ZS20 sounds from 250 - 100. Standing keeps the distance and has no cycle. Without a prompt its kind is 0. */
     {"a gap goes on, the train stands with its brakes released",
-     {8, 2, 7, 0, 4, 12, 2, 0, 300, 1, 0, 0, 1, 0, 33, 600, 149, 0},
+     {8, 2, 7, 0, 4, 12, 2, 0, 0x543210, 1, 0, 0, 1, 0, 33, 600, 149, 0},
      {0, 4.5, 0, 2, 0, 0x00, 0},
-     {9, 2, 0, 0, 4, 13, 2, 0, 300, 1, 0, 0, 0, 0, 0, 600, 150, 0},
+     {9, 2, 0, 0, 4, 13, 2, 0, 0x543210, 1, 0, 0, 0, 0, 0, 600, 150, 0},
      {1200, 1200, 0x20, 0, 0, 0},
      {0x00, 0x00, 0, 2, 0, 0x00, 2, 0}},
     /* Step 2: 51 ticks without code, and Stop's target is below that of Clear, which was before them. */
     {"a code after a long gap begins MAN",
-     {9, 2, 2, 0, 4, 51, 3, 0, 9, 0, 0, 0, 0, 1, 70, 0, 0, 8},
+     {9, 2, 2, 0, 4, 51, 3, 0, 65536, 0, 0, 0, 0, 1, 70, 0, 0, 8},
      {37.5, 10, 1, 2, 1, 0x44, 1},
      {10, 2, 4, 1, 0, 0, 0, 0, 0, 0, 1350, 0, 0, 2, 0, 0, 0, 8},
      {1350, 50, 0x01, 8, 4, 1},
      {0x46, 0x05, 1, 2, 1, 0x44, 2, 1}},
-    /* Step 8: 1,000 is above 30 and the curve at age 201 + 100, which is 1,500 - 541. Cyclic prompt from 200 - 35. */
+    /*
+     * 5 * 1,500 * 1,500 - 18 * 263,639 is 6,504,498: from 5 * 1,140 * 1,140, which is 6,498,000, and below 5 * 1,141 *
+     * 1,141. Step 8: another 100 * 1,000 ahead 4,704,498 is left, and 5 * 970 * 970 is 4,704,500, so that the curve is
+     * at 969 there; 1,000 is above that and 30. Cyclic prompt from 200 - 35.
+     */
     {"the train nears the curve",
-     {10, 2, 0, 1, 3, 5, 1, 1500, 200, 0, 0, 0, 0, 1, 164, 100, 0, 2},
+     {10, 2, 0, 1, 3, 5, 1, 1500, 262639, 0, 0, 0, 0, 1, 164, 100, 0, 2},
      {1000 / 36.0, 3.5, 1, 4, 2, 0x40, 2},
-     {11, 2, 0, 1, 3, 5, 1, 1500, 201, 1, 0, 1, 1, 1, 165, 0, 0, 2},
-     {1139, 50, 0x1E, 2, 2, 1},
+     {11, 2, 0, 1, 3, 5, 1, 1500, 263639, 1, 0, 1, 1, 1, 165, 0, 0, 2},
+     {1140, 50, 0x1E, 2, 2, 1},
      {0xE8, 0x03, 1, 4, 2, 0x40, 1, 2}},
     /* Step 2: MAN ends as 1,200 is above 1,100; 1,200 is below the old signal speed, which was MAN's. */
     {"a gap begins, MAN turns into a curve",
-     {11, 2, 0, 4, 1, 40, 2, 0, 0, 0, 1250, 3, 0, 2, 100, 0, 0, 0},
+     {11, 2, 0, 4, 1, 40, 2, 0, 131073, 0, 1250, 3, 0, 2, 100, 0, 0, 0},
      {1100 / 36.0, 5, 0, 2, 1, 0x40, 1},
      {12, 2, 0, 0, 4, 1, 0, 1250, 0, 0, 0, 4, 0, 1, 0, 0, 0, 0},
      {1250, 1200, 0x0A, 0, 0, 0},
      {0x4C, 0x04, 0, 2, 1, 0x40, 2, 1}},
     /* Step 1 clears what is for PRE alone. Remote stop keeps NZ4; distance and standing keep their values. */
     {"a press in POS lets NZ2 and NZ5 go",
-     {12, 1, 6, 2, 3, 4, 1, 900, 8, 1, 1300, 9, 1, 2, 60, 700, 900, 26},
+     {12, 1, 6, 2, 3, 4, 1, 900, 808080, 1, 1300, 9, 1, 2, 60, 700, 900, 26},
      {0, 0, 4, 1, 0, 0x11, 0},
      {13, 1, 1, 0, 0, 0, 0, 0, 0, 0, 0, 0, 0, 0, 0, 700, 900, 8},
      {400, 0, 0x00, 8, 4, 1},
@@ -206,6 +220,20 @@ static const struct row rows[] = {
      {16, 3, 0, 0, 0, 0, 0, 0, 0, 0, 0, 0, 0, 1, 101, 3600, 0, 13},
      {1200, 0, 0x00, 13, 1, 3},
      {0xBC, 0x02, 2, 4, 0, 0x50, 0, 1}},
+    /* 5 * 1,500 * 1,500 - 18 * 624,277 is 13,014, and 5 * 51 * 51 is 13,005. Nothing is added at speed 0. */
+    {"a train that stands keeps its curve",
+     {16, 2, 0, 1, 0, 0, 0, 1500, 624277, 1, 0, 0, 0, 0, 0, 77, 0, 0},
+     {0, 3.25, 1, 2, 1, 0x40, 0},
+     {17, 2, 0, 1, 0, 0, 0, 1500, 624277, 1, 0, 0, 0, 0, 0, 77, 0, 0},
+     {51, 50, 0x02, 0, 0, 0},
+     {0x00, 0x00, 1, 2, 1, 0x40, 0, 0}},
+    /* With 1 more 12,996 is left: the curve is at Stop's 50. Without a curve Stop asks for increased vigilance. */
+    {"a train that moves comes to the curve's end",
+     {17, 2, 0, 1, 0, 0, 0, 1500, 624277, 1, 0, 0, 0, 1, 10, 0, 0, 0},
+     {1 / 36.0, 5, 1, 2, 1, 0x40, 1},
+     {18, 2, 0, 1, 0, 0, 0, 0, 0, 0, 0, 0, 0, 2, 0, 0, 0, 0},
+     {50, 50, 0x00, 0, 0, 0},
+     {0x01, 0x00, 1, 2, 1, 0x40, 2, 1}},
 };
 
 enum { ROWS = sizeof rows / sizeof rows[0], UNUSED = 0xA5, SENTINEL = 0xEE };
@@ -309,24 +337,25 @@ static void expect(double got, double wanted, const char *call, const char *what
         printf("%s: %s is %g and not %g\n", call, what, got, wanted);
 }
 
+/* x86-64 has the low byte of a number first, whatever its size. */
 static void put(void *place, const struct field *field, double number)
 {
     uint8_t *bytes = (uint8_t *)place + field->offset;
+    uint32_t whole = number;
     float real = number;
 
-    if (field->size == 1)
-        *bytes = number;
-    else if (field->size == 2)
-        write_half(bytes, number);
+    if (field->real)
+        memcpy(bytes, &real, sizeof real);
     else
-        memcpy(bytes, &real, sizeof real); /* a sample's speed or pressure */
+        memcpy(bytes, &whole, field->size);
 }
 
 static double get(const void *place, const struct field *field)
 {
-    const uint8_t *bytes = (const uint8_t *)place + field->offset;
+    uint32_t whole = 0;
 
-    return field->size == 1 ? *bytes : read_half(bytes);
+    memcpy(&whole, (const uint8_t *)place + field->offset, field->size); /* no float is handed back */
+    return whole;
 }
 
 static void put_all(void *place, const struct fields *fields, const double *numbers)
@@ -486,12 +515,13 @@ static void check_why(void)
 static void check_refused(void)
 {
     static const double nothing[ANSWER_FIELDS] = {0};
+    static const double far_out[] = {[1] = 0xC0, [2] = 0xE0C0, [4] = 0xF1E2D3C4}; /* by the size of the field */
     double card[CARD_FIELDS], desk[DESK_FIELDS];
 
     for (size_t i = 0; i < CARD_FIELDS; i++)
         card[i] = 0xD0C0 + 0x0101 * i;
     for (size_t i = 0; i < DESK_FIELDS; i++)
-        desk[i] = desk_fields[i].size == 1 ? 0xC0 + i : 0xE0C0 + 0x0101 * i;
+        desk[i] = far_out[desk_fields[i].size] + (desk_fields[i].size == 1 ? 0x01 : 0x0101) * i;
 
     foldharbor_outcome out = foldharbor_tick(make_desk(card, desk), make_sample(rows[0].sample), journal, 8);
 
