@@ -123,7 +123,7 @@ module _ (card : Card) (state : State) (reading : Record) (was : state .mode ≡
 
       stays : reading .mode ≡ pre → reading .v ≡ 0 → keys .plus ≡ false → keys .man ≡ false → keys .loss ≡ false → 0 < old .start
           → target card (state .signal .codes .last) (state .signal .codes .raise)
-              < curveValue card old (target card (state .signal .codes .last) (state .signal .codes .raise)) (old .driven)
+          < curveValue card old (target card (state .signal .codes .last) (state .signal .codes .raise)) (old .driven)
           → 0 < next .start
       stays asked stands plus man loss runs above =
           let before = target card (state .signal .codes .last) (state .signal .codes .raise) in
@@ -150,12 +150,12 @@ module _ (desk : Desk) (sample : Sample) (was : desk .state .mode ≡ pre) (same
           arith,
           value-next (desk .card) (desk .state) reading was same runs T,
           value-falls (desk .card) (desk .state .signal .curve) T (good .state .signal .curve) p {near = desk .state .signal .curve .driven}
-          {far = desk .state .signal .curve .driven + reading .v} (omega arith),
+              {far = desk .state .signal .curve .driven + reading .v} (omega arith),
         );
         standing-keeps = λ runs stands. (
           omega (arith, goes-on (desk .card) (desk .state) reading was same runs .1),
           λ T. value-next (desk .card) (desk .state) reading was same runs T
-          ∙ ap (curveValue (desk .card) (desk .state .signal .curve) T) (omega arith),
+              ∙ ap (curveValue (desk .card) (desk .state .signal .curve) T) (omega arith),
         );
         has-ended = has-ended (desk .card) (desk .state) reading was same (good .card) (good .state .signal) fits;
         stays = stays (desk .card) (desk .state) reading was same (good .card) (good .state .signal) fits;

@@ -1,1 +1,1 @@
-pub mod Digit
+pub mod Newton

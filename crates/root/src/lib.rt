@@ -1,23 +1,30 @@
 // The root of a number, rounded down.
-ghost use Prim.Native.Nat.{_+_, _*_, _≤_, _<_};
+ghost use mathlib.Core.Path.{_≡_};
+ghost use Prim.Native.Nat.{_+_, _*_, _/_, _≤_, _<_};
 
-// The largest w whose square is at most the number, by its binary digits from the highest.
+// Newton's step: the mean of a guess and of what it divides the number into, which is never below the root.
+fn nearer(number: u32, guess: u32) -> u32
+    requires { ⌜ (number < 16777216) × (0 < guess) × (guess ≤ 16777216) ⌝ }
+    ensures { λ x. ⌜ x ≡ (guess + number / guess) / 2 ⌝ }
+{
+    (guess + number / guess) / 2
+}
+
+// The largest w whose square is at most the number.
 pub fn root(number: u32) -> u32
-    requires { ⌜ number < 4096 * 4096 ⌝ }
+    requires { ⌜ number < 16777216 ⌝ }
     ensures { λ w. ⌜ (w * w ≤ number) × (number < (w + 1) * (w + 1)) ⌝ }
 {
-    // the digits so far, what the number has beyond their square, and how far above them the root may lie
-    let mut w = 0u32;
-    let mut left = number;
-    let mut span = 4096u32;
-    while 1 < span {
-        let step = span / 2;
-        let taken = (2 * w + step) * step;
-        if taken <= left {
-            w = w + step;
-            left = left - taken;
-        }
-        span = span - step;
+    if number == 0 {
+        return 0;
     }
-    w
+    // any first guess would do; one of half the number's binary digits is near
+    let guess = 1u32 << ((33 - u32::leading_zeros(number)) / 2);
+    let mut w = nearer(number, guess);
+    let mut next = nearer(number, w);
+    while next < w {
+        w = next;
+        next = nearer(number, w);
+    }
+    return w;
 }

@@ -109,8 +109,8 @@ module _ (card : Card) (signal : Signal) (reading : Record) (keys : Keys) (same 
   -- without a press of PLUS or MAN and without adhesion loss, a curve whose value at the grown E is not T goes on
   pub stays-on : keys .plus ≡ false → keys .man ≡ false → keys .loss ≡ false → 0 < signal .curve .start
       → eqb (curveValue card (signal .curve) (target card (signal .codes .last) (signal .codes .raise)) (signal .curve .driven + reading .v))
-          (target card (signal .codes .last) (signal .codes .raise))
-          ≡ false
+      (target card (signal .codes .last) (signal .codes .raise))
+      ≡ false
       → after .start ≡ signal .curve .start
   unfolding steps2To6 drivenNow curveHolds
   stays-on plus man loss runs not-over =
