@@ -60,7 +60,7 @@ stays-above number guess n-some n-most some most =
     }
 
 -- ---- the first guess: a power of two, as a u32
-pub guess-small : (zeros : ℕ) → (33 - zeros) / 2 ≤ 16
+pub guess-small : (zeros : ℕ) → (32 - zeros) / 2 ≤ 16
 guess-small zeros = omega arith
 
 pub guess-range : (half : ℕ) → half ≤ 16 → (0 < (1 * 2 ^ half) % 2 ^ 32) × ((1 * 2 ^ half) % 2 ^ 32 ≤ 16777216)

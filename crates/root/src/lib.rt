@@ -18,8 +18,8 @@ pub fn root(number: u32) -> u32
     if number == 0 {
         return 0;
     }
-    // any first guess would do; one of half the number's binary digits is near
-    let guess = 1u32 << ((33 - u32::leading_zeros(number)) / 2);
+    // any first guess would do; with half the binary digits it is within a half of the root
+    let guess = 1u32 << ((32 - u32::leading_zeros(number)) / 2);
     let mut w = nearer(number, guess);
     let mut next = nearer(number, w);
     while next < w {

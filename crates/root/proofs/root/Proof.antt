@@ -9,9 +9,9 @@ use Rattle.root.proofs.root.Statement.{statement}
 use Rattle.root.proofs.root.Tie as tie
 
 -- Newton's step from the first guess
-first : (number : ℕ) → 0 < number → number < 16777216 → Above number (stepped number ((1 * 2 ^ ((33 - leadingZeros 32 number) / 2)) % 2 ^ 32))
+first : (number : ℕ) → 0 < number → number < 16777216 → Above number (stepped number ((1 * 2 ^ ((32 - leadingZeros 32 number) / 2)) % 2 ^ 32))
 first number p q =
-    let guess = guess-range ((33 - leadingZeros 32 number) / 2) (guess-small (leadingZeros 32 number)) in
+    let guess = guess-range ((32 - leadingZeros 32 number) / 2) (guess-small (leadingZeros 32 number)) in
     stays-above number _ p q (guess .0) (guess .1)
 
 -- and from any later one
