@@ -66,7 +66,8 @@ extern "C" {
 /*
  * The version of this header, 2.0.0: 10,000 times the first number, 100 times the second, and the third. The call
  * returns the archive's. The first numbers of the two have to be the same: otherwise the structs may differ. With 2 the
- * desk's curve has driven in place of age, and desk and outcome are longer.
+ * desk's curve has driven in place of age, and desk and outcome are longer. A drive that was kept under 1 is taken up
+ * by the rules of 2: its curves fall by distance, so P and what follows from it may not be what was shown then.
  */
 #define FOLDHARBOR_VERSION 20000
 uint32_t foldharbor_version(void);

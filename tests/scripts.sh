@@ -102,7 +102,7 @@ for words in x Journal journals "journal journal" "journal x"; do
 done
 run program drive "" <crates/drive/stdin
 gives "drive with an empty word" 0 "" "usage: drive [journal] <SCRIPT"
-[ "$(program show <tests/exercises/30.ex | head -n 1)" = "card 1" ] || miss "show into a pipe that closes"
+[ "$(program show <tests/exercises/02-10.ex | head -n 1)" = "card 1" ] || miss "show into a pipe that closes"
 
 # drive takes no byte beyond a call: behind the unknown one, which ends this script, a tick of 14 bytes is left
 left=$({ program drive >/dev/null; wc -c; } <tests/drives/journal-survivors.drive)
