@@ -2,13 +2,12 @@
 -- From demand 2: the desk after it is that of `advance`, whose curve in PRE is that of steps 2 to 6 (rules/proofs/Curve.antt, signal/proofs/Distance.antt).
 -- Assumes nothing.
 use Prim.Native.Nat.{ℕ, _+_, _*_, _-_, _≤_, _<_}
-use mathlib.Core.Path.{_≡_, refl, sym, ap, _∙_}
-use mathlib.Core.Bool.{true, false, cond, true≢false}
-use mathlib.Core.List.{List}
+use mathlib.Core.Path.{_≡_, sym, ap, _∙_}
+use mathlib.Core.Bool.{true, false, true≢false}
 use native.Mathlib.Omega.{arith}
 use native.Mathlib.Decide.{ℕ-discrete}
 use lib.Dec.{eqb}
-use borrow.Author.Tests.{eq-eqb, ne-eqb}
+use borrow.Author.Tests.{ne-eqb}
 use Rattle.numbers.proofs.Tests.{and-iff, not-iff}
 use Rattle.card.specs.declared.Card.{Card}
 use Rattle.card.specs.Card.{CardRanges}

@@ -1,7 +1,7 @@
 -- Newton's step for a root: it never goes below the root, and where it does not go lower it has come from the root.
 -- The mean of two numbers is no lower than the root of their product, by multiplying out. Assumes nothing.
 use Prim.Native.Nat.{ℕ, _+_, _-_, _*_, _/_, _%_, _^_, _≤_, _<_}
-use mathlib.Core.Path.{_≡_, subst, sym}
+use mathlib.Core.Path.{_≡_, subst}
 use mathlib.Core.Logic.{⊎-elim}
 use native.Mathlib.Nat.{mul-le-mul, mul-le-mul-right, div-lt-iff-lt-mul, div-mul-le-self, div-le-self}
 use native.Mathlib.Omega.{arith}

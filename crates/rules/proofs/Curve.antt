@@ -1,14 +1,12 @@
 -- The curve after a tick: that of steps 2 to 6 from the desk's own signals where the desk is in PRE and stays there; where it leaves PRE there is none.
 -- By the definitions of steps 1 and 2 to 6. Assumes nothing.
-use mathlib.Core.Path.{_≡_, refl, _∙_, ap}
-use mathlib.Core.Bool.{Bool, true, false, not, _||_, cond, or-true}
-use lib.Dec.{eqb}
-use borrow.Author.Tests.{eq-eqb, ne-eqb}
+use mathlib.Core.Path.{_≡_, refl}
+use mathlib.Core.Bool.{or-true}
+use borrow.Author.Tests.{ne-eqb}
 use Rattle.card.specs.declared.Card.{Card}
 use Rattle.record.specs.declared.Record.{Record}
 use Rattle.record.specs.Modes.{pre}
 use Rattle.record.specs.Flags.{keysOf}
-use Rattle.signal.specs.declared.Signal.{Signal}
 use Rattle.signal.specs.declared.SignalStep.{SignalStep}
 use Rattle.signal.specs.Ranges.{noSignal}
 use Rattle.signal.specs.Steps.{steps2To6}

@@ -1,11 +1,11 @@
 -- How a curve goes on under an unchanged code: E grows by v, so that the value never rises, and at r·E from 5·(V0² − T²) on it has ended.
 -- By cases on the tests of step 5, and the laws of the value. Assumes nothing.
 use Prim.Native.Nat.{ℕ, _+_, _-_, _*_, _≤_, _<_}
-use mathlib.Core.Path.{_≡_, refl, sym, _∙_}
-use mathlib.Core.Bool.{Bool, true, false, not, _&&_, _||_, cond, true≢false, false≢true}
+use mathlib.Core.Path.{_≡_, refl, _∙_}
+use mathlib.Core.Bool.{Bool, true, false, not, _&&_, cond}
 use native.Mathlib.Omega.{arith}
 use native.Mathlib.Nat.{mul-le-mul-left}
-use borrow.Author.Tests.{eq-eqb, ne-eqb, lt-ltb, ltb-true, ltb-false}
+use borrow.Author.Tests.{eq-eqb, ne-eqb, lt-ltb, ltb-false}
 use lib.Dec.{ltb, eqb}
 use Rattle.numbers.proofs.Choice.{cond-has}
 use Rattle.reading.specs.Speed.{topSpeed}
@@ -13,7 +13,6 @@ use Rattle.card.specs.declared.Card.{Card}
 use Rattle.record.specs.declared.Record.{Record}
 use Rattle.record.specs.declared.Keys.{Keys}
 use Rattle.codes.specs.Target.{target}
-use Rattle.codes.specs.Gap.{newCode, unchanged}
 use Rattle.codes.specs.Plus.{raiseByCode, step3Plus, codesNext}
 use Rattle.signal.specs.declared.Curve.{Curve}
 use Rattle.signal.specs.declared.Signal.{Signal}
@@ -22,7 +21,7 @@ use Rattle.signal.specs.Value.{fiveSquares, curveBound, curveValue}
 use Rattle.signal.specs.NewCode.{curveFrom, oldSpeed, curveBegins, curveByCode}
 use Rattle.signal.specs.Curve.{drivenNow, curveHolds, manStarts, curveNow}
 use Rattle.signal.specs.Steps.{targetNow, steps2To6}
-use Rattle.signal.proofs.Value.{squares-grow, fits-most, value-largest, over-by-squares}
+use Rattle.signal.proofs.Value.{fits-most, value-largest, over-by-squares}
 
 -- the value is that of V0 and E
 pub value-by-start : (card : Card) (a b : Curve) (t driven : ℕ) → a .start ≡ b .start → curveValue card a t driven ≡ curveValue card b t driven
