@@ -1,6 +1,6 @@
 -- The curve after a tick: that of steps 2 to 6 from the desk's own signals where the desk is in PRE and stays there; where it leaves PRE there is none.
 -- By the definitions of steps 1 and 2 to 6. Assumes nothing.
-use mathlib.Core.Path.{_≡_, refl}
+use mathlib.Core.Path.{_≡_, refl, ap, _∙_}
 use mathlib.Core.Bool.{or-true}
 use borrow.Author.Tests.{ne-eqb}
 use Rattle.card.specs.declared.Card.{Card}
@@ -15,7 +15,7 @@ use Rattle.state.specs.Mode.{modeNow, step1Mode}
 use Rattle.rules.specs.Tick.{signalIn, stateNext, answerNow, steps2To10, advance}
 
 module _ (card : Card) (state : State) (reading : Record) where
-  abbrev cleared : State
+  abbrev pub cleared : State
   cleared = step1Mode state reading
 
   abbrev pub found : SignalStep
@@ -49,9 +49,15 @@ module _ (card : Card) (state : State) (reading : Record) where
   unfolding step1Mode
   signal-cleared n = simp (ne-eqb (modeNow state reading) pre n, or-true)
 
-  pub in-pre : state .mode ≡ pre → modeNow state reading ≡ pre → found ≡ steps2To6 card (state .signal) reading (keysOf (reading .flags) (state .buttons))
+  -- in PRE that of steps 2 to 6, from the signals as step 1 left them
+  pub in-mode : modeNow state reading ≡ pre → found ≡ steps2To6 card (cleared .signal) reading (keysOf (reading .flags) (state .buttons))
   unfolding signalIn
-  in-pre was now = simp (mode-is, buttons-are, signal-kept was now, now)
+  in-mode now = simp (mode-is, buttons-are, now)
+
+  -- where it was in PRE, those of the desk
+  pub in-pre : state .mode ≡ pre → modeNow state reading ≡ pre
+      → found ≡ steps2To6 card (state .signal) reading (keysOf (reading .flags) (state .buttons))
+  in-pre was now = in-mode now ∙ ap (λ signal. steps2To6 card signal reading (keysOf (reading .flags) (state .buttons))) (signal-kept was now)
 
   pub left-pre : (modeNow state reading ≡ pre → ⊥) → found .signal ≡ noSignal
   unfolding signalIn

@@ -35,7 +35,8 @@ pub step-4-man-most : (was now : ℕ) (unchanged : Bool) (t v : ℕ) → now ≤
 unfolding step4Man
 step-4-man-most was now unchanged t v p = simp most-iff (omega arith)
 
-module _ (card : Card) (curve : Curve) (begins : Bool) (t v : ℕ) (k : Keys) (card-good : CardRanges card) (good : CurveRanges curve) (t-most : t ≤ topSpeed) where
+module _ (card : Card) (curve : Curve) (begins : Bool) (t v : ℕ) (k : Keys) (card-good : CardRanges card) (good : CurveRanges curve)
+    (t-most : t ≤ topSpeed) where
   -- a curve that goes on is not spent
   near : curveHolds card curve begins t v ≡ true → drivenNow curve begins v ≤ farthest
   unfolding curveHolds

@@ -68,7 +68,8 @@ least-equal {least} {x} p =
     (le-or-lt x least)
 
 -- r·E fits a u32
-pub spent-most : (card : Card) (driven : ℕ) → CardRanges card → driven ≤ farthestAhead → card .deceleration * driven ≤ mostDeceleration * farthestAhead
+pub spent-most : (card : Card) (driven : ℕ) → CardRanges card → driven ≤ farthestAhead
+    → card .deceleration * driven ≤ mostDeceleration * farthestAhead
 spent-most card driven good p = mul-le-mul (good .deceleration-most) p
 
 module _ (card : Card) (curve : Curve) (t driven : ℕ) (good : CurveRanges curve) (t-most : t ≤ topSpeed) where
@@ -91,7 +92,7 @@ module _ (card : Card) (curve : Curve) (t driven : ℕ) (good : CurveRanges curv
   pub over-by-squares : eqb (curveValue card curve t driven) t ≡ ltb (curveBound card curve t driven) (fiveSquares (t + 1))
   over-by-squares = least-equal value-least ∙ above-by-squares value-largest (t + 1)
 
-  -- with r ≥ 5 and V0 ≤ 2500, r·E is 5·V0² before E is 6,250,000
+  -- with r ≥ 5 and V0 ≤ 2500, r·E is 5·V0² or more from E = 6,250,000 on
   pub unspent : CardRanges card → (curveValue card curve t driven ≡ t → ⊥) → driven < farthest
   unfolding curveBound
   unspent card-good n =

@@ -28,7 +28,9 @@ module _ (card : Card) (curve : Curve) (begins : Bool) (t v : ℕ) (keys : Keys)
   unfoldable pub curveNow : Curve
   curveNow =
       cond (curveRuns curve)
-      (cond (curveHolds card curve begins t v && not manStarts) (record { start = curve .start; driven = drivenNow curve begins v; prompted = curve .prompted }) noCurve)
+      (cond (curveHolds card curve begins t v && not manStarts)
+      (record { start = curve .start; driven = drivenNow curve begins v; prompted = curve .prompted })
+      noCurve)
       curve
 
   -- M for v where MAN starts, else M as step 4 leaves it

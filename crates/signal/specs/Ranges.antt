@@ -11,10 +11,11 @@ use Rattle.signal.specs.declared.NewCode.{NewCode}
 use Rattle.signal.specs.declared.CurveStep.{CurveStep}
 use Rattle.signal.specs.declared.SignalStep.{SignalStep}
 
+-- the most that a desk holds as E
 abbrev pub farthest : ℕ
 farthest = 6250000
 
--- the one-time rule looks ahead by 249 ticks at most
+-- the one-time rule asks at E + v·150 at most, and at v·249 where E is 0
 abbrev pub farthestAhead : ℕ
 farthestAhead = farthest + 249 * topSpeed
 

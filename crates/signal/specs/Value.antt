@@ -20,11 +20,11 @@ curveBound card curve t driven = max (fiveSquares t) (fiveSquares (curve .start)
 abbrev pub nextIfFits : ℕ → ℕ → ℕ
 nextIfFits bound w = cond (leb (fiveSquares (w + 1)) bound) (w + 1) w
 
--- the largest w of so many binary digits: twice that for a quarter of the bound, or the next
+-- the largest w of so many binary digits: twice the one of a digit fewer for a quarter of the bound, or the next above that
 unfoldable pub largestOf : ℕ → ℕ → ℕ
 largestOf zero bound = 0
 largestOf (suc digits) bound = nextIfFits bound (2 * largestOf digits (bound / 4))
 
--- the curve's value at E; a speed has 12 binary digits
+-- the curve's value at E: `Largest` for every speed in range (`value-largest`, proofs/Value.antt), found by digits so that whole drives compute
 unfoldable pub curveValue : Card → Curve → ℕ → ℕ → ℕ
 curveValue card curve t driven = largestOf 12 (curveBound card curve t driven)

@@ -55,7 +55,7 @@ returns-3 c =
     let a = start .args in
     let over = goes-on .before .curve-over .ensures in
     let now = driven .driven-now in
-    let young : now .result < farthest =
+    let near : now .result < farthest =
     unspent (a .card) (a .curve) (a .t) (now .result) (start .pre .1) (start .pre .2) (start .pre .0) (eqb-false _ _ (sym over ∙ goes-on .if2 .left)) in
     (simp (c .if3 .left, goes-on .if2 .left, ← over, ← now .ensures .0, lt-ltb _ _ (runs .if1 .taken)), omega arith)
 
