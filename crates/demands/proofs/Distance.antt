@@ -176,7 +176,8 @@ module _ (card : Card) (state : State) (reading : Record) (was : state .mode ≡
         omega (arith, stayed (asked-pre asked stands) .0, on)
 
 -- MAN off, or ended by the new code
-man-gone : (card : Card) (signal : Signal) (reading : Record) → (signal .man ≡ 0) ⊎ (reading .v < newTarget card reading) → manStays card signal reading ≡ false
+man-gone : (card : Card) (signal : Signal) (reading : Record) → (signal .man ≡ 0) ⊎ (reading .v < newTarget card reading)
+    → manStays card signal reading ≡ false
 man-gone card signal reading =
     ⊎-elim (λ off. simp off) (λ ended. simp (lt-leb (newTarget card reading) (reading .v) ended, and-false))
 
@@ -198,12 +199,12 @@ module _ (desk : Desk) (sample : Sample) (good : DeskRanges desk) (fits : Record
           arith,
           value-next (desk .card) (desk .state) reading was same runs S,
           value-falls (desk .card) (desk .state .signal .curve) S (good .state .signal .curve) p {near = desk .state .signal .curve .driven}
-          {far = desk .state .signal .curve .driven + reading .v} (omega arith),
+              {far = desk .state .signal .curve .driven + reading .v} (omega arith),
         );
         standing-keeps = λ runs stands. (
           omega (arith, goes-on (desk .card) (desk .state) reading was same runs .1),
           λ S. value-next (desk .card) (desk .state) reading was same runs S
-          ∙ ap (curveValue (desk .card) (desk .state .signal .curve) S) (omega arith),
+              ∙ ap (curveValue (desk .card) (desk .state .signal .curve) S) (omega arith),
         );
         has-ended = has-ended (desk .card) (desk .state) reading was same (good .card) (good .state .signal) fits;
         stays = stays (desk .card) (desk .state) reading was same;

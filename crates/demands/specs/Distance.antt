@@ -55,7 +55,8 @@ pub record SameCode (desk : Desk) (sample : Sample) (after : Desk) (T : ℕ) : T
   pub standing-keeps : Runs after → v sample ≡ 0 →
       (curveOf after .driven ≡ curveOf desk .driven) × ((S : ℕ) → valueAt after S ≡ valueAt desk S)
   -- where r·E, with this tick's v in E, is 5·(V0² − T²) or more, it has ended
-  pub has-ended : 5 * (curveOf desk .start * curveOf desk .start - T * T) ≤ desk .card .deceleration * (curveOf desk .driven + v sample) → Runs after → ⊥
+  pub has-ended : 5 * (curveOf desk .start * curveOf desk .start - T * T) ≤ desk .card .deceleration * (curveOf desk .driven + v sample)
+      → Runs after → ⊥
   -- it does not end at a stand: while PRE is asked, without a press of PLUS or MAN and without adhesion loss, one whose value is above T goes on
   pub stays : sample .mode ≡ pre → v sample ≡ 0 → keysIn desk sample .plus ≡ false → keysIn desk sample .man ≡ false
       → keysIn desk sample .loss ≡ false → Runs desk → oldTarget desk < valueAt desk (oldTarget desk) → Runs after

@@ -49,7 +49,7 @@ pub record DeskFits (desk : Desk) : Type 0 where
   pub raise : desk .state .signal .codes .raise ≤ 4
   -- V0
   pub curve-start : desk .state .signal .curve .start ≤ 2500
-  -- c
+  -- E
   pub curve-driven : desk .state .signal .curve .driven ≤ 6250000
   -- M
   pub man-speed : desk .state .signal .man ≤ 2500

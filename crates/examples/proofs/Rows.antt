@@ -35,11 +35,11 @@ use Rattle.examples.specs.Rows.{rows}
 
 -- with `[]` and `_∷_` in scope, a refusal of a short table shows the numbers that differ
 unfoldable pub rows-hold : map (λ row. row .what) rows ≡ map (λ row. row .is) rows
-unfolding rows ticks drive taken atEnd ofBits quantity speedAt speedOf speedValue cardInRange recordInRange pressed keysOf target curveBound
-    largestOf curveValue signalSpeed gapMan manByCode curveBegins curveByCode interruptedNext gapNext raiseByCode step3Plus codesNext step4Man drivenNow
-    curveHolds manStarts curveNow manNow steps2To6 asksIncreased asksOrdinary cyclicKind cycleLength cyclicLapses cyclicTicks cyclicPrompts lead exceeds promptLapses
-    promptStays dueAhead dueAtStart asksAhead asksAtStart promptTicksNext promptKindNext promptedNext heldIn maskOf ifHeld listed firstOr lowest
-    howMany wrongwayNow wrongwayTriggers counted standingNow standingTriggers standingSounds released step10Held step10Wrongway modeNow
+unfolding rows ticks drive taken atEnd ofBits quantity speedAt speedOf speedValue cardInRange recordInRange pressed keysOf target curveBound largestOf
+    curveValue signalSpeed gapMan manByCode curveBegins curveByCode interruptedNext gapNext raiseByCode step3Plus codesNext step4Man drivenNow
+    curveHolds manStarts curveNow manNow steps2To6 asksIncreased asksOrdinary cyclicKind cycleLength cyclicLapses cyclicTicks cyclicPrompts lead
+    exceeds promptLapses promptStays dueAhead dueAtStart asksAhead asksAtStart promptTicksNext promptKindNext promptedNext heldIn maskOf ifHeld listed
+    firstOr lowest howMany wrongwayNow wrongwayTriggers counted standingNow standingTriggers standingSounds released step10Held step10Wrongway modeNow
     step1Mode ceiling step6Permitted signalIn permittedIn kindIn cyclicIn oneTimeIn directionIn standingIn triggersIn releasesIn heldNext wrongwayNext
     marks stateNext answerNow steps2To10 advance after
 rows-hold = refl

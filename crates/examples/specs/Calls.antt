@@ -225,7 +225,7 @@ calls =
     ∷ tickNumber 7200 57608 7
     -- the record goes to bytes 8n to 8n + 7, and no other byte changes
     ∷ ticks (good 1) (cab 4) (third ++ third ++ first ++ bytes 2) 0 (good 2) inPos (third ++ second ++ first ++ bytes 2)
-    -- Warning at 360 with PLUS on: the curve, the prompt and q grow older; the train moves and agrees, so d and h become 0
+    -- Warning at 360 with PLUS on: E grows by 360, the prompt and q by one; the train moves and agrees, so d and h become 0
     ∷ ticks underway (sample 0x41200000 0x40a00000 2 66 1) (bytes 8) 0 underwayNext underwayAnswer (104 ∷ 1 ∷ 2 ∷ 2 ∷ 1 ∷ 66 ∷ 2 ∷ 1 ∷ [])
     -- step back, each number by itself
     ∷ backRefused (bad 3) 1 three 5

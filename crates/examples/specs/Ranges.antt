@@ -57,7 +57,7 @@ deskBounds =
     (0, 7200) ∷ (1, 4) ∷ (0, 7)
     -- last code, k, gap, raise
     ∷ (0, 4) ∷ (0, 4) ∷ (0, 51) ∷ (0, 4)
-    -- V0, c, M, w
+    -- V0, E, M, w
     ∷ (0, 2500) ∷ (0, 6250000) ∷ (0, 2500) ∷ (0, 1)
     -- u and its kind, vigilance kind and q
     ∷ (0, 35) ∷ (0, 1) ∷ (0, 2) ∷ (0, 599)

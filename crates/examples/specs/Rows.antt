@@ -1,4 +1,4 @@
--- The starred "Numbers to try" as the rows of one table: what the definitions give, beside what the paper says.
+-- The starred "Numbers to try", and a few of ours, as the rows of one table: what the definitions give, beside what the paper says.
 -- A row that speaks of ticks is read off a whole drive: every tick of it by `advance`, from a fresh desk of card K.
 use Prim.Native.Nat.{ℕ, _+_, _-_}
 use mathlib.Core.Bool.{cond}
@@ -8,7 +8,7 @@ use lib.Ieee.{Float}
 use Rattle.reading.specs.Number.{quantity}
 use Rattle.reading.specs.Bits.{floatOfBits}
 use Rattle.reading.specs.Speed.{speedOf, speedValue}
-use Rattle.record.specs.Codes.{stop, warning, clear}
+use Rattle.record.specs.Codes.{none, stop, warning, clear}
 use Rattle.record.specs.Flags.{vigilance, man}
 use Rattle.rules.specs.declared.AfterTick.{AfterTick}
 use Rattle.examples.specs.Drive.{fields, stands, drives, presses, backs, Runs, ticks, taken, atEnd}
@@ -77,18 +77,22 @@ count x = x .state .cyclic .ticks
 abbrev clearTo : ℕ → ℕ → ℕ → Runs
 clearTo code thousands v = (10, stands clear) ∷ (1, stands code) ∷ (thousands, drives 1000 code) ∷ (1, drives v code) ∷ []
 
--- at v, Clear to Stop, up to the c-th tick after the curve's first
-abbrev toStop : ℕ → ℕ → Runs
-toStop v c = (10, stands clear) ∷ (10, drives v clear) ∷ (1 + c, drives v stop) ∷ []
+-- under Warning up to E 250,000, then so many ticks at a stand, and so many without code
+abbrev stopped : ℕ → ℕ → Runs
+stopped standing gap = (10, stands clear) ∷ (1, stands warning) ∷ (125, drives 2000 warning) ∷ (standing, stands warning) ∷ (gap, stands none) ∷ []
 
--- the same, with a vigilance press in the 20th, which confirms the start prompt and keeps the cyclic prompt away
+-- at v, Clear to another code, up to the n-th tick after the curve's first
+abbrev clearInto : ℕ → ℕ → ℕ → Runs
+clearInto code v n = (10, stands clear) ∷ (10, drives v clear) ∷ (1 + n, drives v code) ∷ []
+
+-- at v, Clear to Stop, the same, with a vigilance press in the 20th tick after the first: it confirms the start prompt and keeps the cyclic one away
 abbrev confirmed : ℕ → ℕ → Runs
-confirmed v c =
+confirmed v n =
     (10, stands clear)
     ∷ (10, drives v clear)
     ∷ (20, drives v stop)
     ∷ (1, presses vigilance v stop)
-    ∷ (c - 20, drives v stop)
+    ∷ (n - 20, drives v stop)
     ∷ []
 
 -- MAN entered at v by a press, under Stop with its curve running; then a tick at each of the next speeds
@@ -143,13 +147,21 @@ rows =
     ∷ ends (clearTo stop 711 110) ((driven, 711110) ∷ (start, 1600) ∷ (permitted, 2) ∷ [])
     ∷ ends (clearTo stop 711 111) ((driven, 0) ∷ (start, 0) ∷ (permitted, 0) ∷ [])
     -- "v 1200 Clear to Stop: start prompt, D first true at the 176th tick after the first": D ahead gives the prompt of kind 1 and sets w
-    ∷ ends (toStop 1200 0) ((driven, 0) ∷ (marks, 10) ∷ (prompted, 0) ∷ [])
+    ∷ ends (clearInto stop 1200 0) ((driven, 0) ∷ (marks, 10) ∷ (prompted, 0) ∷ [])
     ∷ ends (confirmed 1200 175) ((driven, 210000) ∷ (marks, 2) ∷ (prompted, 0) ∷ [])
     ∷ ends (confirmed 1200 176) ((driven, 211200) ∷ (marks, 26) ∷ (prompted, 1) ∷ [])
     -- "v 1400: the 36th tick, no start prompt"
-    ∷ ends (toStop 1400 0) ((driven, 0) ∷ (marks, 2) ∷ (prompted, 0) ∷ [])
-    ∷ ends (toStop 1400 35) ((driven, 49000) ∷ (marks, 2) ∷ (prompted, 0) ∷ [])
-    ∷ ends (toStop 1400 36) ((driven, 50400) ∷ (marks, 26) ∷ (prompted, 1) ∷ [])
+    ∷ ends (clearInto stop 1400 0) ((driven, 0) ∷ (marks, 2) ∷ (prompted, 0) ∷ [])
+    ∷ ends (clearInto stop 1400 35) ((driven, 49000) ∷ (marks, 2) ∷ (prompted, 0) ∷ [])
+    ∷ ends (clearInto stop 1400 36) ((driven, 50400) ∷ (marks, 26) ∷ (prompted, 1) ∷ [])
+    -- ours: T holds the value up, so that D is never true within the tolerance above T; just beyond it, it is
+    ∷ ends (clearInto warning 1230 160) ((driven, 196800) ∷ (prompted, 0) ∷ [])
+    ∷ ends (clearInto warning 1231 152) ((driven, 187112) ∷ (prompted, 0) ∷ [])
+    ∷ ends (clearInto warning 1231 153) ((driven, 188343) ∷ (prompted, 1) ∷ [])
+    -- ours: at a stand the curve stands; a new curve starts from its value
+    ∷ ends (stopped 0 0) ((driven, 250000) ∷ (start, 1600) ∷ (permitted, 1288) ∷ [])
+    ∷ ends (stopped 100 0) ((driven, 250000) ∷ (start, 1600) ∷ (permitted, 1288) ∷ [])
+    ∷ ends (stopped 0 1) ((driven, 0) ∷ (start, 1288) ∷ (permitted, 1288) ∷ [])
     -- "MAN entered at 1350, then 1300, 1320, 1100, 1250: M is 1350, 1300, 1300, 1200, 1200 (Stop)"
     ∷ ends (underMan 1350 []) ((manSpeed, 1350) ∷ [])
     ∷ ends (underMan 1350 (1300 ∷ [])) ((manSpeed, 1300) ∷ [])

@@ -15,7 +15,7 @@ use Rattle.onetime.specs.declared.OneTimeStep.{OneTimeStep}
 unfoldable pub lead : Card → ℕ
 lead card = cond (leb (card .set) 1000) 150 100
 
--- D: v exceeds the curve's value at E by more than the tolerance. An age means E plus v times the ticks ahead
+-- D: v exceeds the curve's value by more than the tolerance, at a distance: E plus v times the ticks ahead
 unfoldable pub exceeds : Card → Curve → ℕ → ℕ → ℕ → Bool
 exceeds card curve t v driven = beyond card (curveValue card curve t driven) v
 

@@ -7,6 +7,7 @@ use native.Mathlib.Nat.{mul-le-mul, mul-le-mul-right, div-lt-iff-lt-mul, div-mul
 use native.Mathlib.Omega.{arith}
 use lib.Pow.{shl-exact, pow-mono}
 use Rattle.numbers.proofs.Tests.{le-or-lt}
+use Rattle.root.specs.Limit.{limit}
 
 abbrev pub stepped : ℕ → ℕ → ℕ
 stepped number guess = (guess + number / guess) / 2
@@ -20,7 +21,7 @@ mean : (a b : ℕ) → 4 * (a * b) ≤ (a + b) * (a + b)
 mean a b = ⊎-elim (mean-of-higher a b) (λ p. omega (arith, mean-of-higher b a (omega arith))) (le-or-lt a b)
 
 -- from any guess above 0
-pub never-below : (number guess : ℕ) → 0 < guess → number < (stepped number guess + 1) * (stepped number guess + 1)
+never-below : (number guess : ℕ) → 0 < guess → number < (stepped number guess + 1) * (stepped number guess + 1)
 never-below number guess p =
     let q = number / guess in
     let m = stepped number guess in
@@ -38,7 +39,7 @@ not-lower number guess p =
 pub record Above (number w : ℕ) : Type 0 where
   pub number-some : 0 < number
   pub some : 0 < w
-  pub most : w ≤ 16777216
+  pub most : w ≤ limit
   pub below : number < (w + 1) * (w + 1)
 
 -- a number above 0 has no root of 0
@@ -49,7 +50,7 @@ root-some number w n-some below =
     (λ p. p)
     (le-or-lt w 0)
 
-pub stays-above : (number guess : ℕ) → 0 < number → number < 16777216 → 0 < guess → guess ≤ 16777216 → Above number (stepped number guess)
+pub stays-above : (number guess : ℕ) → 0 < number → number < limit → 0 < guess → guess ≤ limit → Above number (stepped number guess)
 stays-above number guess n-some n-most some most =
     let below = never-below number guess some in
     record {
@@ -63,7 +64,7 @@ stays-above number guess n-some n-most some most =
 pub guess-small : (zeros : ℕ) → (32 - zeros) / 2 ≤ 16
 guess-small zeros = omega arith
 
-pub guess-range : (half : ℕ) → half ≤ 16 → (0 < (1 * 2 ^ half) % 2 ^ 32) × ((1 * 2 ^ half) % 2 ^ 32 ≤ 16777216)
+pub guess-range : (half : ℕ) → half ≤ 16 → (0 < (1 * 2 ^ half) % 2 ^ 32) × ((1 * 2 ^ half) % 2 ^ 32 ≤ limit)
 guess-range half p =
     let exact = shl-exact {a = 1} 1 half 32 (omega arith) (omega arith) in
     let most = pow-mono {i = half} {j = 16} p in

@@ -4,18 +4,19 @@ use Prim.Native.Nat.{ℕ, _-_, _*_, _/_, _%_, _^_, _<_}
 use mathlib.Core.Path.{_≡_}
 use native.Mathlib.Omega.{arith}
 use lib.Count.{leadingZeros, leading-le}
+use Rattle.root.specs.Limit.{limit}
 use Rattle.root.proofs.Newton.{stepped, Above, stays-above, not-lower, guess-small, guess-range}
 use Rattle.root.proofs.root.Statement.{statement}
 use Rattle.root.proofs.root.Tie as tie
 
 -- Newton's step from the first guess
-first : (number : ℕ) → 0 < number → number < 16777216 → Above number (stepped number ((1 * 2 ^ ((32 - leadingZeros 32 number) / 2)) % 2 ^ 32))
+first : (number : ℕ) → 0 < number → number < limit → Above number (stepped number ((1 * 2 ^ ((32 - leadingZeros 32 number) / 2)) % 2 ^ 32))
 first number p q =
     let guess = guess-range ((32 - leadingZeros 32 number) / 2) (guess-small (leadingZeros 32 number)) in
     stays-above number _ p q (guess .0) (guess .1)
 
 -- and from any later one
-later : {number w next : ℕ} → number < 16777216 → Above number w → next ≡ stepped number w → Above number next
+later : {number w next : ℕ} → number < limit → Above number w → next ≡ stepped number w → Above number next
 later q above e = rw e (stays-above _ _ (above .number-some) q (above .some) (above .most))
 
 abbrev Inv-loop : tie.InvT-loop
