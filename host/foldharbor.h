@@ -65,9 +65,13 @@ extern "C" {
 
 /*
  * The version of this header, 2.0.0: 10,000 times the first number, 100 times the second, and the third. The call
- * returns the archive's. The first numbers of the two have to be the same: otherwise the structs may differ. With 2 the
- * desk's curve has driven in place of age, and desk and outcome are longer. A drive that was kept under 1 is taken up
- * by the rules of 2: its curves fall by distance, so P and what follows from it may not be what was shown then.
+ * returns the archive's. The first numbers of the two have to be the same: otherwise the structs may differ.
+ *
+ * What a host of version 1 meets: with 2 a braking curve falls by distance and no longer by time, and the desk's curve
+ * has driven in place of age.
+ * - A desk has 60 bytes and an outcome 72, so compile anew. A desk that was kept as bytes can't be taken over.
+ * - Cards, journals, exercises and answers keep their bytes. But the same drive may give another P, other prompts and
+ *   other causes, and a drive that was kept under 1 (card, n and journal) is rebuilt by the new rule.
  */
 #define FOLDHARBOR_VERSION 20000
 uint32_t foldharbor_version(void);
@@ -249,12 +253,16 @@ typedef struct foldharbor_codes {
 } foldharbor_codes;
 
 /*
- * While a curve runs the signal speed is the largest w with 5 * w * w <= 5 * start * start - deceleration * driven, the
- * deceleration being the card's. Where that is not above T the curve ends.
+ * While a curve runs in a drive, the signal speed is the largest w with
+ *
+ *   5 * w * w <= 5 * start * start - deceleration * driven (0 if that is below 0)
+ *
+ * by the card's deceleration. Where w is not above T the curve ends.
  */
 typedef struct foldharbor_curve {
     uint16_t start;   /* speed that the braking curve starts from; 0: no curve (0 to 2500) */
-    uint32_t driven;  /* the sum of v since it began, its first tick's apart, in units of 1/360 m (0 to 6250000) */
+    uint32_t driven;  /* the sum of the train's speeds at the ticks since it began, its first apart, in units of 1/360 m
+                         (0 to 6250000) */
     uint8_t prompted; /* whether its prompt of kind 1 was given (0 to 1) */
 } foldharbor_curve;
 

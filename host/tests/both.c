@@ -199,10 +199,11 @@ static void compare_lent(void)
 static void tally_curve(const foldharbor_signal *before, const foldharbor_signal *after)
 {
     bool same_code = before->codes.last == after->codes.last;
+    bool same_target = same_code && before->codes.raise == after->codes.raise;
     bool runs_on = before->curve.start > 0 && after->curve.start > 0 && same_code;
 
     curves_kept_seen += runs_on && read_half(journal_record(handed.desk.n)) == 0;
-    curves_ended_seen += before->curve.start > 0 && after->curve.start == 0 && same_code && after->man == 0;
+    curves_ended_seen += before->curve.start > 0 && after->curve.start == 0 && same_target && after->man == 0;
     far_driven_seen += runs_on && after->curve.driven > UINT16_MAX;
 }
 

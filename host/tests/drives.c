@@ -34,7 +34,7 @@ struct drive {
     struct driver driver;
     size_t length; /* of the journal */
     foldharbor_desk desk;
-    uint32_t stood; /* ticks on a curve, up to the last one */
+    uint32_t stood; /* ticks at a stand on a curve, in a row */
 };
 
 /* What the calls gave after so many ticks of the drive: what a step back to there has to give again. */
@@ -66,12 +66,15 @@ static struct drive begin_drive(struct dice *dice, size_t length)
 static bool tick(struct drive *drive)
 {
     foldharbor_outcome outcome = both_tick(drive->desk, sample_of(drive->dice, &drive->driver.record), drive->length);
-    bool stands = drive->driver.record.speed == 0 && outcome.desk.state.signal.curve.start > 0;
 
     go_on(drive, outcome);
+    if (outcome.refusal != 0)
+        return false;
+    bool stands = drive->driver.record.speed == 0 && drive->desk.state.signal.curve.start > 0;
+
     drive->stood = stands ? drive->stood + 1 : 0;
     stands_seen += drive->stood == LONG_STAND;
-    return outcome.refusal == 0;
+    return true;
 }
 
 /* Drives on with one choice of the driver; false when the journal is full. */
@@ -92,11 +95,13 @@ static void step_back(struct drive *drive, uint32_t count)
     expect(outcome.refusal == 0 && !compare_outcomes(&outcome, &history[left]).name,
            "a step back gives another desk or answer than that tick gave");
     go_on(drive, outcome);
+    drive->stood = 0;
 }
 
 static void restart(struct drive *drive)
 {
     go_on(drive, both_restart(drive->desk));
+    drive->stood = 0;
 }
 
 static bool was_held(uint32_t ticks, uint32_t cause)
