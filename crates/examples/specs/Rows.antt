@@ -73,9 +73,9 @@ count x = x .state .cyclic .ticks
 
 -- ---- the drives
 
--- Clear, then another code, whose curve begins in its first tick; then so many ticks at 1000 and one at v, so that E is 1000 times those and v
+-- Clear, then another code, whose curve begins in its first tick; then n ticks at 2000 and one at v, so that E is 2000·n + v
 abbrev clearTo : ℕ → ℕ → ℕ → Runs
-clearTo code thousands v = (10, stands clear) ∷ (1, stands code) ∷ (thousands, drives 1000 code) ∷ (1, drives v code) ∷ []
+clearTo code n v = (10, stands clear) ∷ (1, stands code) ∷ (n, drives 2000 code) ∷ (1, drives v code) ∷ []
 
 -- under Warning up to E 250,000, then so many ticks at a stand, and so many without code
 abbrev stopped : ℕ → ℕ → Runs
@@ -141,11 +141,11 @@ rows =
     row (floatOfBits 0x3e000000) ((numerator, 1) ∷ (denominator, 8) ∷ (tenths, 5) ∷ [])
     ∷ row (floatOfBits 0x41200000) ((numerator, 10) ∷ (denominator, 1) ∷ (tenths, 360) ∷ [])
     -- "Clear to Warning 1201 at E 310,444, ends at 310,445": P is the signal speed where that is below 1400
-    ∷ ends (clearTo warning 310 444) ((driven, 310444) ∷ (start, 1600) ∷ (permitted, 1201) ∷ [])
-    ∷ ends (clearTo warning 310 445) ((driven, 0) ∷ (start, 0) ∷ (permitted, 1200) ∷ [])
+    ∷ ends (clearTo warning 155 444) ((driven, 310444) ∷ (start, 1600) ∷ (permitted, 1201) ∷ [])
+    ∷ ends (clearTo warning 155 445) ((driven, 0) ∷ (start, 0) ∷ (permitted, 1200) ∷ [])
     -- "Clear to Stop 2 at 711,110, ends at 711,111"
-    ∷ ends (clearTo stop 711 110) ((driven, 711110) ∷ (start, 1600) ∷ (permitted, 2) ∷ [])
-    ∷ ends (clearTo stop 711 111) ((driven, 0) ∷ (start, 0) ∷ (permitted, 0) ∷ [])
+    ∷ ends (clearTo stop 355 1110) ((driven, 711110) ∷ (start, 1600) ∷ (permitted, 2) ∷ [])
+    ∷ ends (clearTo stop 355 1111) ((driven, 0) ∷ (start, 0) ∷ (permitted, 0) ∷ [])
     -- "v 1200 Clear to Stop: start prompt, D first true at the 176th tick after the first": D ahead gives the prompt of kind 1 and sets w
     ∷ ends (clearInto stop 1200 0) ((driven, 0) ∷ (marks, 10) ∷ (prompted, 0) ∷ [])
     ∷ ends (confirmed 1200 175) ((driven, 210000) ∷ (marks, 2) ∷ (prompted, 0) ∷ [])
