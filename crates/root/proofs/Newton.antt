@@ -1,9 +1,9 @@
--- Newton's step for a root: it never goes below the root, and where it does not go lower it has come from the root.
+-- Newton's step for a root: it never goes below the root, wherever it comes from; from there the root is reached by ones.
 -- The mean of two numbers is no lower than the root of their product, by multiplying out. Assumes nothing.
 use Prim.Native.Nat.{ℕ, _+_, _-_, _*_, _/_, _%_, _^_, _≤_, _<_}
 use mathlib.Core.Path.{_≡_, subst}
 use mathlib.Core.Logic.{⊎-elim}
-use native.Mathlib.Nat.{mul-le-mul, mul-le-mul-right, div-lt-iff-lt-mul, div-mul-le-self, div-le-self}
+use native.Mathlib.Nat.{mul-le-mul, div-lt-iff-lt-mul, div-le-self}
 use native.Mathlib.Omega.{arith}
 use lib.Pow.{shl-exact, pow-mono}
 use Rattle.numbers.proofs.Tests.{le-or-lt}
@@ -29,43 +29,37 @@ never-below number guess p =
     let twice : guess + (q + 1) ≤ 2 * (m + 1) = omega arith in
     omega (arith, in-parts, mean guess (q + 1), mul-le-mul twice twice)
 
--- from a guess that it does not go below
-pub not-lower : (number guess : ℕ) → guess ≤ stepped number guess → guess * guess ≤ number
-not-lower number guess p =
-    let parts : guess ≤ number / guess = omega arith in
-    omega (arith, mul-le-mul-right guess parts, div-mul-le-self number guess)
+pub stays-in-range : (number guess : ℕ) → number < limit → guess ≤ limit → stepped number guess ≤ limit
+stays-in-range number guess p q = omega (arith, div-le-self number guess)
 
--- what a guess is from the first step on: above 0, and no lower than the root
+-- what the loop keeps: w is no lower than the root
 pub record Above (number w : ℕ) : Type 0 where
-  pub number-some : 0 < number
-  pub some : 0 < w
   pub most : w ≤ limit
   pub below : number < (w + 1) * (w + 1)
 
--- a number above 0 has no root of 0
-root-some : (number w : ℕ) → 0 < number → number < (w + 1) * (w + 1) → 0 < w
-root-some number w n-some below =
-    ⊎-elim
-    (λ p. let one : w + 1 ≤ 1 = omega arith in absurd (omega (arith, mul-le-mul one one)))
-    (λ p. p)
-    (le-or-lt w 0)
+pub step-above : (number guess : ℕ) → number < limit → 0 < guess → guess ≤ limit → Above number (stepped number guess)
+step-above number guess p some q = record { most = stays-in-range number guess p q; below = never-below number guess some }
 
-pub stays-above : (number guess : ℕ) → 0 < number → number < limit → 0 < guess → guess ≤ limit → Above number (stepped number guess)
-stays-above number guess n-some n-most some most =
-    let below = never-below number guess some in
-    record {
-      number-some = n-some;
-      some = root-some number (stepped number guess) n-some below;
-      most = omega (arith, div-le-self number guess);
-      below = below;
-    }
+-- a w whose square is above the number is above 0, and the one below it is no lower than the root
+pub some-square : (number w : ℕ) → number < w * w → 0 < w
+some-square number w p = ⊎-elim (λ none. absurd (omega (arith, mul-le-mul none none))) (λ some. some) (le-or-lt w 0)
 
--- ---- the first guess: a power of two, as a u32
-pub guess-small : (zeros : ℕ) → (32 - zeros) / 2 ≤ 16
-guess-small zeros = omega arith
+pub one-down : (number w : ℕ) → Above number w → number < w * w → Above number (w - 1)
+one-down number w above p =
+    let some = some-square number w p in
+    let back : w - 1 + 1 ≡ w = omega arith in
+    record { most = omega (arith, above .most); below = rw back p }
 
-pub guess-range : (half : ℕ) → half ≤ 16 → (0 < (1 * 2 ^ half) % 2 ^ 32) × ((1 * 2 ^ half) % 2 ^ 32 ≤ limit)
-guess-range half p =
+-- a product of two u32s fits a u64
+pub product-fits : (a b : ℕ) → a ≤ 4294967295 → b ≤ 4294967295 → a * b < 2 ^ 64
+product-fits a b p q = omega (arith, mul-le-mul p q)
+
+-- ---- the power of two that is stepped from, as a u32
+pub power-small : (zeros : ℕ) → (32 - zeros) / 2 ≤ 16
+power-small zeros = omega arith
+
+pub power-range : (half : ℕ) → half ≤ 16 → (0 < (1 * 2 ^ half) % 2 ^ 32) × ((1 * 2 ^ half) % 2 ^ 32 ≤ limit)
+power-range half p =
     let exact = shl-exact {a = 1} 1 half 32 (omega arith) (omega arith) in
     let most = pow-mono {i = half} {j = 16} p in
     let least = pow-mono {i = 0} {j = half} (omega arith) in

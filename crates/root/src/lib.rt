@@ -16,16 +16,12 @@ pub fn root(number: u32) -> u32
     requires { ⌜ number < limit ⌝ }
     ensures { λ w. ⌜ (w * w ≤ number) × (number < (w + 1) * (w + 1)) ⌝ }
 {
-    if number == 0 {
-        return 0;
-    }
-    // any first guess from 1 on would do; one of half the binary digits is less than half the root away from it
-    let guess = 1u32 << ((32 - u32::leading_zeros(number)) / 2);
-    let mut w = nearer(number, guess);
-    let mut next = nearer(number, w);
-    while next < w {
-        w = next;
-        next = nearer(number, w);
+    let power = 1u32 << ((32 - u32::leading_zeros(number)) / 2);
+    let high = nearer(number, power);
+    // any guess from 1 on would do; `high` is up to a sixteenth too high, so a 64th is taken off, and one step more leaves at most two to go
+    let mut w = nearer(number, high - high / 64 + 1);
+    while (number as u64) < (w as u64) * (w as u64) {
+        w = w - 1;
     }
     return w;
 }

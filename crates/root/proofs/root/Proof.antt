@@ -1,77 +1,72 @@
--- `root` meets its contract. The loop's invariant: w is above 0 and no lower than the root, and `next` is Newton's step from it.
--- So where the step goes no lower w is the root (`not-lower`). The measure is w.
-use Prim.Native.Nat.{ℕ, _-_, _*_, _/_, _%_, _^_, _<_}
-use mathlib.Core.Path.{_≡_}
+-- `root` meets its contract. The loop's invariant: w is no lower than the root; it is left where w² is no higher than the number.
+-- The measure is w.
+use Prim.Native.Nat.{ℕ, _-_, _*_, _/_, _%_, _^_, _≤_, _<_}
 use native.Mathlib.Omega.{arith}
 use lib.Count.{leadingZeros, leading-le}
 use Rattle.root.specs.Limit.{limit}
-use Rattle.root.proofs.Newton.{stepped, Above, stays-above, not-lower, guess-small, guess-range}
+use Rattle.root.proofs.Newton.{Above, stays-in-range, step-above, some-square, one-down, product-fits, power-small, power-range}
 use Rattle.root.proofs.root.Statement.{statement}
 use Rattle.root.proofs.root.Tie as tie
 
--- Newton's step from the first guess
-first : (number : ℕ) → 0 < number → number < limit → Above number (stepped number ((1 * 2 ^ ((32 - leadingZeros 32 number) / 2)) % 2 ^ 32))
-first number p q =
-    let guess = guess-range ((32 - leadingZeros 32 number) / 2) (guess-small (leadingZeros 32 number)) in
-    stays-above number _ p q (guess .0) (guess .1)
-
--- and from any later one
-later : {number w next : ℕ} → number < limit → Above number w → next ≡ stepped number w → Above number next
-later q above e = rw e (stays-above _ _ (above .number-some) q (above .some) (above .most))
-
 abbrev Inv-loop : tie.InvT-loop
-Inv-loop number guess w₀ next₀ w next = Above number w × (next ≡ stepped number w)
+Inv-loop number power high w₀ w = Above number w
 
 abbrev μ-loop : tie.MeasureT-loop
-μ-loop number guess w₀ next₀ w next = w
+μ-loop number power high w₀ w = w
 
-returns : tie.Need-returns Inv-loop μ-loop
-returns c = omega arith
+-- the power of two is above 0 and in range
+power : (number : ℕ) → (0 < (1 * 2 ^ ((32 - leadingZeros 32 number) / 2)) % 2 ^ 32) × ((1 * 2 ^ ((32 - leadingZeros 32 number) / 2)) % 2 ^ 32 ≤ limit)
+power number = power-range _ (power-small (leadingZeros 32 number))
 
-sub-guess : tie.Need-sub-guess Inv-loop μ-loop
-sub-guess c = omega (arith, leading-le 32 (c .before .args .number))
+sub-power : tie.Need-sub-power Inv-loop μ-loop
+sub-power c = omega (arith, leading-le 32 (c .args .number))
 
-shl-guess : tie.Need-shl-guess Inv-loop μ-loop
-shl-guess c = omega (arith, guess-small (leadingZeros 32 (c .before .args .number)))
+shl-power : tie.Need-shl-power Inv-loop μ-loop
+shl-power c = omega (arith, power-small (leadingZeros 32 (c .args .number)))
 
 nearer-requires : tie.Need-nearer-requires Inv-loop μ-loop
 nearer-requires c κs =
-    let start = c .before in
-    let guess = guess-range _ (guess-small (leadingZeros 32 (start .args .number))) in
-    (start .pre, guess .0, guess .1)
+    let from = power (c .args .number) in
+    (c .pre, from .0, from .1)
+
+sub-nearer : tie.Need-sub-nearer Inv-loop μ-loop
+sub-nearer c = omega arith
+
+add-nearer : tie.Need-add-nearer Inv-loop μ-loop
+add-nearer c = omega (arith, c .nearer .ensures, stays-in-range _ _ (c .before .pre) (power (c .before .args .number) .1))
 
 nearer-requires-2 : tie.Need-nearer-requires-2 Inv-loop μ-loop
 nearer-requires-2 c κs =
-    let start = c .before .before in
-    let w = first (start .args .number) (omega arith) (start .pre) in
-    (start .pre, omega (arith, c .nearer .ensures, w), omega (arith, c .nearer .ensures, w))
+    let start = c .before in
+    let high = stays-in-range _ _ (start .pre) (power (start .args .number) .1) in
+    (start .pre, omega arith, omega (arith, c .nearer .ensures, high))
 
 loop-holds : tie.Need-loop-holds Inv-loop μ-loop
 loop-holds c =
-    let w = c .before in
-    let start = w .before .before in
-    (rw (w .nearer .ensures) (first (start .args .number) (omega arith) (start .pre)), c .nearer2 .ensures)
+    let start = c .before .before in
+    let high = stays-in-range _ _ (start .pre) (power (start .args .number) .1) in
+    rw (c .nearer2 .ensures) (step-above (start .args .number) _ (start .pre) (omega arith) (omega (arith, c .before .nearer .ensures, high)))
 
-nearer-requires-3 : tie.Need-nearer-requires-3 Inv-loop μ-loop
-nearer-requires-3 c κs =
-    let at-loop = c .before in
-    let start = at-loop .before .before .before .before in
-    let next = later (start .pre) (at-loop .loop .inv .0) (at-loop .loop .inv .1) in
-    (start .pre, next .some, next .most)
+cast-loop : tie.Need-cast-loop Inv-loop μ-loop
+cast-loop c = omega (arith, c .loop .inv .most)
+
+cast-loop-2 : tie.Need-cast-loop-2 Inv-loop μ-loop
+cast-loop-2 c = omega (arith, c .loop .inv .most)
+
+mul-loop : tie.Need-mul-loop Inv-loop μ-loop
+mul-loop c = record { fits = product-fits _ _ (omega (arith, c .loop .inv .most)) (omega (arith, c .loop .inv .most)) }
+
+sub-w : tie.Need-sub-w Inv-loop μ-loop
+sub-w c = omega (arith, some-square _ (c .before .loop .w) (c .loop-test .taken))
 
 loop-less : tie.Need-loop-less Inv-loop μ-loop
-loop-less c = omega arith
+loop-less c = omega (arith, some-square _ (c .before .loop .w) (c .loop-test .taken))
 
 loop-again : tie.Need-loop-again Inv-loop μ-loop
-loop-again c =
-    let at-loop = c .before .before in
-    let start = at-loop .before .before .before .before in
-    (later (start .pre) (at-loop .loop .inv .0) (at-loop .loop .inv .1), c .nearer3 .ensures)
+loop-again c = one-down _ _ (c .before .loop .inv) (c .loop-test .taken)
 
-returns-2 : tie.Need-returns-2 Inv-loop μ-loop
-returns-2 c =
-    let inv = c .before .loop .inv in
-    (not-lower _ _ (omega (arith, c .loop-test .left, inv .1)), inv .0 .below)
+returns : tie.Need-returns Inv-loop μ-loop
+returns c = (omega (arith, c .loop-test .left), c .before .loop .inv .below)
 
 pub root-spec : {M : Type 1} → statement M
 root-spec =
@@ -79,13 +74,17 @@ root-spec =
     (tie.spec
     Inv-loop
     μ-loop
-    returns
-    sub-guess
-    shl-guess
+    sub-power
+    shl-power
     nearer-requires
+    sub-nearer
+    add-nearer
     nearer-requires-2
     loop-holds
-    nearer-requires-3
+    cast-loop
+    cast-loop-2
+    mul-loop
+    sub-w
     loop-less
     loop-again
-    returns-2)
+    returns)
