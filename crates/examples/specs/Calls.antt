@@ -7,7 +7,6 @@ use Rattle.record.specs.declared.Sample.{Sample}
 use Rattle.desk.specs.declared.Outcome.{Outcome}
 use Rattle.journal.specs.Journal.{capacity}
 use Rattle.desk.specs.Calls.{openOutcome, tickRefusalOf, tickOutcome, tickJournal, backOutcome, restartOutcome}
-use Rattle.why.specs.declared.Reasons.{Reasons}
 use Rattle.why.specs.Why.{whyOutcome}
 use Rattle.examples.specs.Literals.{cardOf, deskOf, deskK, sampleOf, deskNumbers, answerNumbers, reasonNumbers}
 use Rattle.examples.specs.Rows.{Row}

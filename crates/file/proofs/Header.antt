@@ -1,6 +1,6 @@
 -- A good header gives the file its length, that of the counts, so that each of the cards and runs that it counts is there.
 -- The test taken apart into its facts. Assumes nothing.
-use Prim.Native.Nat.{ℕ, _≤_}
+use Prim.Native.Nat.{ℕ}
 use native.Mathlib.Omega.{arith}
 use mathlib.Core.Path.{_≡_}
 use mathlib.Core.Bool.{true}

@@ -16,7 +16,6 @@ use Rattle.lines.specs.Made.{madeAfter, madeOf}
 use Rattle.lines.specs.Making.{tableLength, FirstFit, FirstFault, no-line, too-many, too-long, not-utf8}
 use Rattle.lines.specs.declared.Fault.{Fault}
 use Rattle.lines.specs.declared.Fault.the-variants.{NoLine, TooMany, TooLong, NotUtf8}
-use Rattle.lines.specs.declared.Made.{Made}
 use Rattle.lines.specs.declared.Made.the-variants.{Bad}
 use Rattle.lines.proofs.Judged.{each-on}
 

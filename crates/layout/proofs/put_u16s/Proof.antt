@@ -9,7 +9,7 @@ use mathlib.Core.List.{List, [], _∷_, flatMap}
 use lib.ListN.{length, getD, drop, length-drop, drop-of-length-le}
 use lib.Seq.{drop-cons}
 use Rattle.layout.specs.Layout.{u16Bytes, written}
-use Rattle.layout.proofs.Written.{length-written, written-append, written-nil}
+use Rattle.layout.proofs.Written.{written-append, written-nil}
 use Rattle.layout.proofs.U16.{u16s-length}
 use Rattle.layout.proofs.put_u16s.Statement.{statement}
 use Rattle.layout.proofs.put_u16s.Tie as tie

@@ -2,7 +2,6 @@
 -- (`tick-no`), accepted, those of an accepted one (`tick-yes`), with the record as the sample gives it and the ranges that no refusal leaves out.
 use Prim.Native.Nat.{ℕ, _+_, _*_}
 use mathlib.Core.Path.{_≡_, sym, ap, _∙_}
-use native.Mathlib.Omega.{arith}
 use borrow.Author.Needs.{needs}
 use denote.Ref.{now}
 use lib.ListN.{length}
