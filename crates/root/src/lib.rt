@@ -18,7 +18,7 @@ pub fn root(number: u32) -> u32
 {
     let power = 1u32 << ((32 - u32::leading_zeros(number)) / 2);
     let high = nearer(number, power);
-    // any guess from 1 on would do; `high` is up to a sixteenth too high, so a 64th is taken off, and one step more leaves at most two to go
+    // any guess from 1 on would do; `high` is up to a sixteenth too high, so a 64th is taken off, and one step more leaves at most three to go
     let mut w = nearer(number, high - high / 64 + 1);
     while (number as u64) < (w as u64) * (w as u64) {
         w = w - 1;
