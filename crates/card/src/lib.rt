@@ -1,4 +1,6 @@
 // The card: what the train is, as the school sets it.
+#![tactic(auto)]
+
 ghost use Rattle.std.specs.Prelude.{◌≡◌, ◌+◌, ◌≤◌, length};
 ghost use Rattle.card.specs.Card.{card_in_range, no_card, card_width, card_at, put_card};
 
@@ -7,7 +9,7 @@ use reading::TOP_SPEED;
 
 // Speeds in tenths of km/h, times in ticks of 0.1 s.
 #[repr(C)]
-#[derive(Drop)]
+#[derive(Clone, Copy)]
 pub struct Card {
     pub design: u16,
     pub set: u16,

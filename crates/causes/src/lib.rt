@@ -1,4 +1,6 @@
 // Step 10 of a tick: what lets a cause go, which are held then, and the causes as a mask.
+#![tactic(auto)]
+
 ghost use Rattle.std.specs.Prelude.{◌≡◌, ◌≤◌};
 ghost use Rattle.causes.specs.Held.{all_held, held_in, mask_of, lowest, how_many};
 ghost use Rattle.causes.specs.Keeping.{released, step_10_held, step_10_wrongway};
@@ -6,7 +8,7 @@ ghost use Rattle.causes.specs.Keeping.{released, step_10_held, step_10_wrongway}
 use record::{Keys, Record};
 
 // A yes or no for each cause: NZ1 vigilance, NZ2 speed, NZ3 direction, NZ4 remote stop, NZ5 standing.
-#[derive(Drop)]
+#[derive(Clone, Copy)]
 pub struct Causes {
     pub nz1: bool,
     pub nz2: bool,

@@ -1,4 +1,6 @@
 // The code on the rail: its target, the gap before it, and the raise by PLUS. Steps 2 and 3 of a tick, in PRE.
+#![tactic(auto)]
+
 ghost use Rattle.std.specs.Prelude.{◌≡◌, ◌≤◌};
 ghost use Rattle.card.specs.Card.{CardRanges};
 ghost use Rattle.reading.specs.Speed.{top_speed};
@@ -14,7 +16,7 @@ use record::{Keys, Record};
 
 // The last code, the gap and the raise.
 #[repr(C)]
-#[derive(Drop)]
+#[derive(Clone, Copy)]
 pub struct Codes {
     // the last code
     pub last: u8,

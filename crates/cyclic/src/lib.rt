@@ -1,4 +1,6 @@
 // Step 7 of a tick: cyclic vigilance.
+#![tactic(auto)]
+
 ghost use Rattle.std.specs.Prelude.{◌≡◌, ◌≤◌};
 ghost use Rattle.card.specs.Card.{most_cycle, CardRanges};
 ghost use Rattle.cyclic.specs.Ranges.{increased, CyclicRanges, cyclic_in_range};
@@ -10,7 +12,7 @@ use signal::Signal;
 
 // Cyclic vigilance.
 #[repr(C)]
-#[derive(Drop)]
+#[derive(Clone, Copy)]
 pub struct Cyclic {
     // 0 none, 1 ordinary, 2 increased
     pub kind: u8,
@@ -19,7 +21,7 @@ pub struct Cyclic {
 }
 
 // What step 7 finds.
-#[derive(Drop)]
+#[derive(Clone, Copy)]
 pub struct CyclicStep {
     pub cyclic: Cyclic,
     // NZ1 is triggered

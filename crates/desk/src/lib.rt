@@ -1,4 +1,6 @@
 // The desk: opened with a card, then ticks, steps back and restarts. It goes in and comes back by value; the journal is lent.
+#![tactic(auto)]
+
 ghost use Rattle.std.specs.Prelude.{◌≡◌, ◌+◌, ◌≤◌, length};
 ghost use Rattle.record.specs.Times.{most_ticks};
 ghost use Rattle.desk.specs.Desk.{desk_in_range, fresh_desk, no_desk};
@@ -11,7 +13,7 @@ use rules::{AfterTick, Answer};
 use state::State;
 
 #[repr(C)]
-#[derive(Drop)]
+#[derive(Clone, Copy)]
 pub struct Desk {
     pub card: Card,
     // the ticks that the journal holds
@@ -21,7 +23,7 @@ pub struct Desk {
 
 // What a call returns: the new desk, the answer, and the number of the refusal, 0 where the call was accepted.
 #[repr(C)]
-#[derive(Drop)]
+#[derive(Clone, Copy)]
 pub struct Outcome {
     pub desk: Desk,
     pub answer: Answer,

@@ -2,6 +2,8 @@
 //   drive            the lines alone
 //   drive journal    behind them, where the script ends, each record that the journal holds: a line of its 8 bytes in hex
 // That the input can't be read, or the output not be written, is told on standard error and ends the program.
+#![tactic(auto)]
+
 ghost use Rattle.std.specs.Prelude.{◌≡◌, ◌≤◌, length};
 ghost use Rattle.script.specs.Call.{call_most};
 
@@ -15,7 +17,7 @@ use script::{CALL_MOST, HEADER_WIDTH, Reply};
 const JOURNAL_MOST: usize = 65535;
 
 // What comes after a reply.
-#[derive(Drop)]
+#[derive(Clone, Copy)]
 enum Next {
     // a call on this desk
     Call(Desk),
@@ -28,7 +30,7 @@ enum Next {
 }
 
 // What the calls of a script come to.
-#[derive(Drop)]
+#[derive(Clone, Copy)]
 enum Played {
     // so many ticks in the journal
     Ticks(u16),
@@ -37,7 +39,7 @@ enum Played {
 }
 
 // What the arguments ask for.
-#[derive(Drop)]
+#[derive(Clone, Copy)]
 enum Asked {
     Lines,
     LinesAndJournal,

@@ -1,4 +1,6 @@
 // A whole exercise, run under one of its cards into a lent buffer.
+#![tactic(auto)]
+
 ghost use Rattle.std.specs.Prelude.{◌≡◌, true, ◌*◌, ◌≤◌, length};
 ghost use Rattle.layout.specs.Layout.{written};
 ghost use Rattle.card.specs.Card.{CardRanges};

@@ -1,6 +1,8 @@
 // Tells the interventions of the exercise on standard input under each of its cards, and why the valve is open at the end:
 //   explain FIRST SECOND <EXERCISE    FIRST and SECOND are files that hold tables of texts
 // A refused file prints its refusal. That a file or the input can't be read, or the output not be written, is told on standard error and ends the program.
+#![tactic(auto)]
+
 use libc::{STDERR_FILENO, STDIN_FILENO};
 use texts::MOST_BYTES;
 

@@ -1,4 +1,6 @@
 // The exercise file of a school: its header, its cards, its runs, and the reader.
+#![tactic(auto)]
+
 ghost use Rattle.std.specs.Prelude.{◌≡◌, true, ◌+◌, ◌*◌, ◌≤◌, length};
 ghost use Rattle.card.specs.Card.{card_width};
 ghost use Rattle.record.specs.Times.{most_ticks};
@@ -12,7 +14,7 @@ use record::{RECORD_WIDTH, Record};
 
 // What the reader found: the number of its refusal, 0 where there is none, and the counts.
 #[repr(C)]
-#[derive(Drop)]
+#[derive(Clone, Copy)]
 pub struct Counts {
     pub refusal: u8,
     pub cards: u16,
@@ -21,14 +23,14 @@ pub struct Counts {
 }
 
 // What the runs, or a whole exercise, came to: the number of the refusal, 0 where there is none, and the ticks.
-#[derive(Drop)]
+#[derive(Clone, Copy)]
 pub struct Total {
     pub refusal: u8,
     pub ticks: u16,
 }
 
 // So many ticks of one record.
-#[derive(Drop)]
+#[derive(Clone, Copy)]
 pub struct Run {
     pub ticks: u16,
     pub record: Record,

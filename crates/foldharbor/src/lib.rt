@@ -1,5 +1,7 @@
 // The archive: the calls that a host program links, but for the step back, why and exercises.
 // host/foldharbor.h declares them, and their structs, for C and C++.
+#![tactic(auto)]
+
 ghost use Rattle.std.specs.Prelude.{◌≡◌, length};
 ghost use Rattle.card.specs.Card.{card_width, put_card};
 ghost use Rattle.rules.specs.Answer.{answer_width, put_answer};

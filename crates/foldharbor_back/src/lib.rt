@@ -1,4 +1,6 @@
 // The archive's step back, in an object of its own: there its loop is the one place that calls for a tick, which the compiler then takes into the loop.
+#![tactic(auto)]
+
 ghost use Rattle.std.specs.Prelude.{◌≡◌};
 ghost use Rattle.desk.specs.Calls.{back_outcome};
 

@@ -1,4 +1,6 @@
 // The archive's calls on an exercise, in an object of their own, as the step back is.
+#![tactic(auto)]
+
 ghost use Rattle.std.specs.Prelude.{◌≡◌, length};
 ghost use Rattle.file.specs.Read.{read_outcome};
 ghost use Rattle.exercise.specs.Run.{exercise_outcome, exercise_buffer};

@@ -1,4 +1,6 @@
 // The archive's call that tells why the valve is open, in an object of its own, as the step back is.
+#![tactic(auto)]
+
 ghost use Rattle.std.specs.Prelude.{◌≡◌};
 ghost use Rattle.why.specs.Why.{why_outcome};
 

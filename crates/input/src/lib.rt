@@ -1,4 +1,6 @@
 // Reading an input to its end, with a failed read told apart from the end.
+#![tactic(auto)]
+
 ghost use Rattle.std.specs.Prelude.{length};
 ghost use Rattle.libc.specs.Io.{Moved};
 

@@ -1,4 +1,6 @@
 // The journal: the records of the ticks, each at its place; how many it takes, whether they are in range, and what they rebuild.
+#![tactic(auto)]
+
 ghost use Rattle.std.specs.Prelude.{◌≡◌, true, ◌*◌, ◌≤◌, length};
 ghost use Rattle.card.specs.Card.{CardRanges};
 ghost use Rattle.record.specs.Record.{record_width};

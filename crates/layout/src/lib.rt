@@ -1,4 +1,6 @@
 // Bytes at places of a slice. A place past the end holds 0 to `byte_at` and `u16_at`, which have no `requires`.
+#![tactic(auto)]
+
 ghost use Rattle.std.specs.Prelude.{◌≡◌, ◌+◌, ◌*◌, ◌/◌, ◌%◌, ◌≤◌, leb, length, get_or};
 ghost use mathlib.Core.List.{[], ◌∷◌, flat_map};
 ghost use Rattle.layout.specs.Layout.{u16_at, u16_bytes, written};

@@ -1,4 +1,6 @@
 // The lines that are printed of an outcome and of why the valve is open.
+#![tactic(auto)]
+
 ghost use Rattle.std.specs.Prelude.{◌≡◌, ◌+◌, ◌*◌, ◌≤◌, ◌<◌, length};
 ghost use Rattle.layout.specs.Layout.{written};
 ghost use Rattle.line.specs.Line.{digit_at, digits_most, decimal, number_most, spaced, reason_most, reason_numbers, line_of, line_of_reasons};

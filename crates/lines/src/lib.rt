@@ -1,4 +1,6 @@
 // A table of texts made of lines, one message a line.
+#![tactic(auto)]
+
 ghost use Rattle.std.specs.Prelude.{◌≡◌, ◌+◌, ◌≤◌, length, drop};
 ghost use mathlib.Core.List.{flatten};
 ghost use Rattle.layout.specs.Layout.{written};
@@ -12,7 +14,7 @@ use texts::{MOST_BYTES, MOST_MESSAGES};
 const LINE_END: u8 = b'\n';
 
 // What can be wrong with a text.
-#[derive(Drop)]
+#[derive(Clone, Copy)]
 pub enum Fault {
     // there is no line
     NoLine,
@@ -24,7 +26,7 @@ pub enum Fault {
 }
 
 // What is made of a text.
-#[derive(Drop)]
+#[derive(Clone, Copy)]
 pub enum Made {
     // a table of so many messages, so many bytes long
     Table(usize, usize),

@@ -1,5 +1,7 @@
 // The messages of two tables of texts on standard output, one of them or all side by side.
 // What prints answers whether all of it was written, and stops where it was not.
+#![tactic(auto)]
+
 use libc::STDOUT_FILENO;
 use texts::MOST_MESSAGES;
 

@@ -2,11 +2,13 @@
 //   messages FIRST SECOND                    each message on a line: its number, the first table's text, the second's
 //   messages FIRST SECOND LANGUAGE NUMBER    that message alone, or `refused` and the number of the refusal
 // That a file can't be read, or the output not be written, is told on standard error and ends the program.
+#![tactic(auto)]
+
 use libc::STDERR_FILENO;
 use texts::MOST_BYTES;
 
 // What a word says.
-#[derive(Drop)]
+#[derive(Clone, Copy)]
 enum Said {
     Number(u32),
     Nothing,

@@ -1,4 +1,6 @@
 // Step 9 of a tick: which way the train moves, and how long it has stood.
+#![tactic(auto)]
+
 ghost use Rattle.std.specs.Prelude.{◌≡◌, ◌≤◌};
 ghost use Rattle.card.specs.Card.{long_wait, CardRanges};
 ghost use Rattle.record.specs.Record.{RecordRanges};
@@ -9,14 +11,14 @@ use card::Card;
 use record::{Keys, Record};
 
 // The wrong-way distance d after step 9, and whether it triggers NZ3.
-#[derive(Drop)]
+#[derive(Clone, Copy)]
 pub struct DirectionStep {
     pub wrongway: u16,
     pub triggers: bool,
 }
 
 // The standing h after step 9, whether it triggers NZ5, and whether ZS20 sounds.
-#[derive(Drop)]
+#[derive(Clone, Copy)]
 pub struct StandingStep {
     pub standing: u16,
     pub triggers: bool,

@@ -1,4 +1,6 @@
 // The lesser and the greater of two numbers.
+#![tactic(auto)]
+
 ghost use Rattle.std.specs.Prelude.{◌≡◌, cond, ◌≤◌, min, max};
 
 pub fn lesser(a: u16, b: u16) -> u16

@@ -1,4 +1,6 @@
 // Step 8 of a tick: one-time vigilance.
+#![tactic(auto)]
+
 ghost use Rattle.std.specs.Prelude.{◌≡◌, ◌≤◌};
 ghost use Rattle.card.specs.Card.{CardRanges};
 ghost use Rattle.reading.specs.Speed.{top_speed};
@@ -12,7 +14,7 @@ use signal::Curve;
 
 // The prompt of one-time vigilance.
 #[repr(C)]
-#[derive(Drop)]
+#[derive(Clone, Copy)]
 pub struct Prompt {
     // u, 1 from the tick in which the prompt comes; 0: no prompt
     pub ticks: u8,
@@ -21,7 +23,7 @@ pub struct Prompt {
 }
 
 // What step 8 finds.
-#[derive(Drop)]
+#[derive(Clone, Copy)]
 pub struct OneTimeStep {
     pub prompt: Prompt,
     // w of the curve

@@ -1,4 +1,6 @@
 // What the two floats of a cab sample say, exactly: each is read by comparison and by its bits, and never by float arithmetic.
+#![tactic(auto)]
+
 ghost use Rattle.std.specs.Prelude.{◌≡◌};
 ghost use Rattle.reading.specs.Bits.{float_of_bits};
 ghost use Rattle.reading.specs.Speed.{speed_of, speed_refusal, speed_value};
@@ -26,7 +28,7 @@ pub fn float_of_bits(bits: u32) -> f32
 }
 
 // v in tenths of km/h, or no speed.
-#[derive(Drop)]
+#[derive(Clone, Copy)]
 pub enum Speed {
     Tenths(u16),
     Refused,
@@ -84,7 +86,7 @@ pub fn speed_value(speed: Speed) -> u16
 }
 
 // A band of pressure, or no pressure.
-#[derive(Drop)]
+#[derive(Clone, Copy)]
 pub enum Pressure {
     Band(u8),
     Refused,

@@ -1,5 +1,7 @@
 // Prints, for bit patterns at the edges of what a sample may hold, the pattern, its v as a speed and its band as a pressure.
 // That the output can't be written is told on standard error and ends the program.
+#![tactic(auto)]
+
 use libc::STDOUT_FILENO;
 
 const PATTERNS: [u32; 35] = [

@@ -1,4 +1,6 @@
 // What the cab delivers: a sample, the record that a tick goes by, and its 8 bytes.
+#![tactic(auto)]
+
 ghost use Rattle.std.specs.Prelude.{◌≡◌, ◌+◌, ◌≤◌, length};
 ghost use Rattle.record.specs.Modes.{pre_or_vyl};
 ghost use Rattle.record.specs.Flags.{keys_of};
@@ -12,7 +14,7 @@ use refusal::{BAD_FIELD, first_refusal};
 
 // What the cab delivers at a tick: two floats and the switches.
 #[repr(C)]
-#[derive(Drop)]
+#[derive(Clone, Copy)]
 pub struct Sample {
     // in m/s
     pub speed: f32,
@@ -27,7 +29,7 @@ pub struct Sample {
 
 // What a tick goes by, and what the journal keeps of it.
 #[repr(C)]
-#[derive(Drop)]
+#[derive(Clone, Copy)]
 pub struct Record {
     // in tenths of km/h
     pub v: u16,
@@ -43,7 +45,7 @@ pub struct Record {
 }
 
 // A sample as it was taken: the number of its refusal, 0 where there is none, and its record.
-#[derive(Drop)]
+#[derive(Clone, Copy)]
 pub struct Taken {
     pub refusal: u8,
     pub record: Record,
@@ -96,7 +98,7 @@ pub const CAB: u8 = 64;
 const ALL_FLAGS: u8 = VIGILANCE + PLUS + MAN + BRAKE + REMOTE + LOSS + CAB;
 
 // What the driver and the cab do at a tick: the presses of the three buttons, then the switches.
-#[derive(Drop)]
+#[derive(Clone, Copy)]
 pub struct Keys {
     pub vigilance: bool,
     pub plus: bool,

@@ -1,4 +1,6 @@
 // The numbers of refusal, as the paper's table has them and from 14 on the request that brings them; 0 is none.
+#![tactic(auto)]
+
 ghost use Rattle.std.specs.Prelude.{◌≡◌};
 ghost use Rattle.refusal.specs.Refusal.{first_refusal};
 

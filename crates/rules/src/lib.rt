@@ -1,4 +1,6 @@
 // One whole tick: the ten steps in their order, and the answer.
+#![tactic(auto)]
+
 ghost use Rattle.std.specs.Prelude.{◌≡◌, ◌+◌, ◌≤◌, length};
 ghost use Rattle.layout.specs.Layout.{written};
 ghost use Rattle.card.specs.Card.{CardRanges};
@@ -22,7 +24,7 @@ use signal::{Curve, Signal, SignalStep};
 use state::State;
 
 // What steps 2 to 9 find, in the state as step 1 leaves it.
-#[derive(Drop)]
+#[derive(Clone, Copy)]
 pub struct Findings {
     pub keys: Keys,
     pub signal: SignalStep,
@@ -36,7 +38,7 @@ pub struct Findings {
 
 // What the desk shows after a tick.
 #[repr(C)]
-#[derive(Drop)]
+#[derive(Clone, Copy)]
 pub struct Answer {
     // P
     pub permitted: u16,
@@ -49,7 +51,7 @@ pub struct Answer {
 }
 
 // What a tick gives.
-#[derive(Drop)]
+#[derive(Clone, Copy)]
 pub struct AfterTick {
     pub state: State,
     pub answer: Answer,

@@ -1,4 +1,6 @@
 // Whether two desks are the same, in every field.
+#![tactic(auto)]
+
 ghost use Rattle.std.specs.Prelude.{◌≡◌, true, ◌↔◌};
 
 use card::Card;

@@ -1,4 +1,6 @@
 // A drive script: the header that opens a desk, and the calls on it.
+#![tactic(auto)]
+
 ghost use Rattle.std.specs.Prelude.{◌≡◌, ◌+◌, ◌≤◌};
 ghost use Rattle.script.specs.Sample.{u32_at, sample_at};
 ghost use Rattle.script.specs.Call.{journal_length, open_reply, call_most, call_width, play_reply, play_journal};
@@ -29,7 +31,7 @@ const SAMPLE_WIDTH: usize = 13;
 pub const CALL_MOST: usize = 1 + SAMPLE_WIDTH;
 
 // What a header or a call comes to.
-#[derive(Drop)]
+#[derive(Clone, Copy)]
 pub enum Reply {
     // what is printed as a line
     Line(Outcome),

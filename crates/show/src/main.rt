@@ -1,6 +1,8 @@
 // Prints the exercise on standard input: for each card its number, then for each run, after its last tick,
 // the ticks so far, P, T, the causes and the lowest of them. A refused file prints only its refusal.
 // That the input can't be read, or the output not be written, is told on standard error and ends the program.
+#![tactic(auto)]
+
 use libc::{STDIN_FILENO, STDOUT_FILENO};
 use rules::ANSWER_WIDTH;
 

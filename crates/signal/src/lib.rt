@@ -1,4 +1,6 @@
 // MAN, the braking curve and the signal speed: steps 2 to 6 of a tick, in PRE.
+#![tactic(auto)]
+
 ghost use Rattle.std.specs.Prelude.{◌≡◌, eqb, ◌+◌, ◌≤◌};
 ghost use Rattle.card.specs.Card.{CardRanges};
 ghost use Rattle.reading.specs.Speed.{top_speed};
@@ -18,7 +20,7 @@ use record::{Keys, Record};
 
 // The braking curve.
 #[repr(C)]
-#[derive(Drop)]
+#[derive(Clone, Copy)]
 pub struct Curve {
     // V0, the speed it starts from; 0: no curve
     pub start: u16,
@@ -30,7 +32,7 @@ pub struct Curve {
 
 // What the desk holds of the signals.
 #[repr(C)]
-#[derive(Drop)]
+#[derive(Clone, Copy)]
 pub struct Signal {
     pub codes: Codes,
     pub curve: Curve,
@@ -39,7 +41,7 @@ pub struct Signal {
 }
 
 // MAN and the curve as step 2 leaves them, and whether the curve begins.
-#[derive(Drop)]
+#[derive(Clone, Copy)]
 pub struct NewCode {
     pub man: u16,
     pub curve: Curve,
@@ -47,14 +49,14 @@ pub struct NewCode {
 }
 
 // The curve and M as step 5 leaves them.
-#[derive(Drop)]
+#[derive(Clone, Copy)]
 pub struct CurveStep {
     pub curve: Curve,
     pub man: u16,
 }
 
 // What steps 2 to 6 find: the signals, T, whether a curve begins, and the signal speed.
-#[derive(Drop)]
+#[derive(Clone, Copy)]
 pub struct SignalStep {
     pub signal: Signal,
     pub target: u16,

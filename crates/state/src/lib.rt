@@ -1,4 +1,6 @@
 // What the desk holds but its card and n: a fresh state, its ranges, and step 1, which clears of it what a new mode clears.
+#![tactic(auto)]
+
 ghost use Rattle.std.specs.Prelude.{◌≡◌, ◌≤◌};
 ghost use Rattle.record.specs.Modes.{pos, zav};
 ghost use Rattle.record.specs.Record.{RecordRanges};
@@ -12,7 +14,7 @@ use signal::Signal;
 
 // All that the desk holds but its card and n.
 #[repr(C)]
-#[derive(Drop)]
+#[derive(Clone, Copy)]
 pub struct State {
     pub mode: u8,
     // the three buttons of the last tick: vigilance, PLUS, MAN

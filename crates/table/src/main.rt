@@ -1,6 +1,8 @@
 // Makes a table of texts of the lines on standard input, one message a line, and writes it to standard output.
 // A fault of the lines is told on standard error, in a line with its number, and nothing is written.
 // That the input can't be read, or the table not be written, is told there too.
+#![tactic(auto)]
+
 use libc::{STDERR_FILENO, STDIN_FILENO, STDOUT_FILENO};
 use lines::{Fault, Made};
 use texts::MOST_BYTES;

@@ -1,4 +1,6 @@
 // A table of texts from the file that an argument names.
+#![tactic(auto)]
+
 ghost use Rattle.std.specs.Prelude.{length};
 ghost use Rattle.libc.specs.Io.{Moved};
 

@@ -1,5 +1,7 @@
 // The drives of an exercise told on standard output, as an instructor would paste them under a trainee's drive.
 // What tells is told whether all before it was written, and answers whether all is written now.
+#![tactic(auto)]
+
 ghost use Rattle.std.specs.Prelude.{◌≡◌, true, ◌+◌, ◌≤◌, ◌<◌};
 ghost use Rattle.card.specs.Card.{CardRanges};
 ghost use Rattle.record.specs.Record.{RecordRanges};
@@ -17,7 +19,7 @@ use why::Reason;
 use wording::Moment;
 
 // A drive so far.
-#[derive(Drop)]
+#[derive(Clone, Copy)]
 struct Drive {
     ticks: u16,
     state: State,

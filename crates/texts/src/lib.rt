@@ -1,4 +1,6 @@
 // Texts in two languages: the part of a lent table that a message number and a language choose.
+#![tactic(auto)]
+
 ghost use Rattle.std.specs.Prelude.{◌≡◌, ◌^◌, ◌≤◌, ◌<◌};
 ghost use Rattle.numbers.specs.All.{all_below};
 ghost use Rattle.texts.specs.Table.{header_width, count, offset, header_good, message_good, table_good};
@@ -8,7 +10,7 @@ use layout::u16_at;
 
 // The number of the refusal, 0 where there is none, and where the text begins and ends in its table, zeros if refused.
 #[repr(C)]
-#[derive(Drop)]
+#[derive(Clone, Copy)]
 pub struct Place {
     pub refusal: u8,
     pub start: u16,

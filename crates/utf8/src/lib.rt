@@ -1,4 +1,6 @@
 // Whether bytes are UTF-8, and how many characters they have.
+#![tactic(auto)]
+
 ghost use Rattle.std.specs.Prelude.{◌≡◌, true, ◌↔◌, ◌≤◌, ◌<◌, min, length, get_or};
 ghost use Rattle.std.proofs.Math.Seq.{slice};
 ghost use Rattle.utf8.specs.Utf8.{Utf8};

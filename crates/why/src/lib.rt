@@ -1,4 +1,6 @@
 // Why the valve is open: for each held cause the tick at which its present holding began, and that tick's record, told from the journal.
+#![tactic(auto)]
+
 ghost use Rattle.std.specs.Prelude.{◌≡◌, true, ◌*◌, ◌≤◌, length};
 ghost use Rattle.card.specs.Card.{CardRanges};
 ghost use Rattle.record.specs.Record.{record_width};
@@ -15,7 +17,7 @@ use state::State;
 
 // Why a cause is held; zeros where it is not.
 #[repr(C)]
-#[derive(Drop)]
+#[derive(Clone, Copy)]
 pub struct Reason {
     // the tick at which its present holding began, from 1
     pub tick: u16,
@@ -25,7 +27,7 @@ pub struct Reason {
 
 // The number of the refusal, 0 where there is none, and of each cause why it is held.
 #[repr(C)]
-#[derive(Drop)]
+#[derive(Clone, Copy)]
 pub struct Reasons {
     pub refusal: u8,
     pub nz1: Reason,
@@ -36,7 +38,7 @@ pub struct Reasons {
 }
 
 // Of each cause the last tick that made it held; 0 where none did.
-#[derive(Drop)]
+#[derive(Clone, Copy)]
 pub struct Starts {
     pub nz1: u16,
     pub nz2: u16,
@@ -46,7 +48,7 @@ pub struct Starts {
 }
 
 // What one pass over the records finds: the number of a refusal, 0 where there is none, the state that they rebuild, and the starts.
-#[derive(Drop)]
+#[derive(Clone, Copy)]
 pub struct Told {
     pub refusal: u8,
     pub state: State,

@@ -1,5 +1,7 @@
 // What people are told of a drive, line by line on standard output: texts are those of two lent tables, the words between them stand here.
 // What prints is told whether all before it was written, prints only then, and answers whether all is written now. A cause goes by its bit, NZ1 is 0.
+#![tactic(auto)]
+
 ghost use Rattle.std.specs.Prelude.{◌≡◌, ◌+◌, ◌*◌, ◌≤◌, ◌<◌};
 
 use libc::STDOUT_FILENO;
@@ -19,7 +21,7 @@ const TICKS_A_SECOND: u16 = 10;
 const SECONDS_A_MINUTE: u16 = 60;
 
 // What is told of a tick in which a cause begins to be held or is let go.
-#[derive(Drop)]
+#[derive(Clone, Copy)]
 pub struct Moment {
     pub tick: u16,
     pub v: u16,
@@ -29,7 +31,7 @@ pub struct Moment {
     pub mode: u8,
 }
 
-#[derive(Drop)]
+#[derive(Clone, Copy)]
 struct Time {
     minutes: u16,
     seconds: u16,
