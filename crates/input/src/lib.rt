@@ -1,25 +1,62 @@
-// Reading an input to its end, with a failed read told apart from the end.
+// Reading an input to its end, with a failed read told apart from the end, and telling why a read or a write failed.
 #![tactic(auto)]
 
-ghost use Rattle.std.specs.Prelude.{length};
-ghost use Rattle.libc.specs.Io.{Moved};
+ghost use Rattle.std.specs.Prelude.{◌≤◌, length, IfOk};
 
-// Fills the buffer, or as much of it as the input has; answers how many bytes that is, or -1 where a read fails.
-pub fn fill(fd: i32, buffer: &mut [u8]) -> isize
-    ensures { Moved (length buffer.old) result }
+use std::io::{Cursor, Read, Write};
+use std::{io, str};
+
+// Longer than the text of any error.
+const TEXT_MOST: usize = 512;
+
+// Fills the buffer, or as much of it as the input has; answers how many bytes that is.
+pub fn fill<R: Read>(input: &mut R, buffer: &mut [u8]) -> io::Result<usize>
+    ensures within { IfOk result (λ n. n ≤ length buffer.old) }
 {
     let mut n = 0;
     while n < buffer.len() {
-        let part = &mut buffer[n..];
-        let got = libc::read(fd, part);
-        if got < 0 {
-            return -1;
-        }
-        let more = io::count(got, part);
+        let more = input.read(&mut buffer[n..])?;
         if more == 0 {
-            return n as isize;
+            return Ok(n);
         }
         n += more;
     }
-    n as isize
+    Ok(n)
+}
+
+// The text without the number of the system's error that std puts behind it.
+fn bare(text: &str) -> &str {
+    match text.rsplit_once(" (os error ") {
+        Some((bare, _)) => bare,
+        None => text,
+    }
+}
+
+// The error's text, put together in the buffer; as much of it as that holds.
+fn text_of(error: io::Error, buffer: &mut [u8]) -> &[u8] {
+    let mut writer = Cursor::new(&mut *buffer);
+    let _ = write!(writer, "{error}");
+    let n = writer.position() as usize;
+    let bytes = &buffer[..n.min(buffer.len())];
+    if error.raw_os_error().is_none() {
+        return bytes;
+    }
+    match str::from_utf8(bytes) {
+        Ok(text) => bare(text).as_bytes(),
+        Err(_) => bytes,
+    }
+}
+
+fn tell<W: Write>(to: &mut W, what: &[u8], error: io::Error) -> io::Result<()> {
+    let mut buffer = [0u8; TEXT_MOST];
+    let text = text_of(error, &mut buffer);
+    to.write_all(what)?;
+    to.write_all(b": ")?;
+    to.write_all(text)?;
+    to.write_all(b"\n")
+}
+
+// Writes a line, to standard error: what failed, as the caller names it, a colon and the error's text. That this fails itself can't be told.
+pub fn fail<W: Write>(to: &mut W, what: &[u8], error: io::Error) {
+    let _ = tell(to, what, error);
 }

@@ -1,48 +1,93 @@
 // A table of texts from the file that an argument names.
 #![tactic(auto)]
 
-ghost use Rattle.std.specs.Prelude.{length};
-ghost use Rattle.libc.specs.Io.{Moved};
+ghost use Rattle.std.specs.Prelude.{◌<◌, length, IfOk, IfSome};
+ghost use Rattle.std.specs.Io.{WritesAtMost};
 
-use libc::STDERR_FILENO;
+use std::env::FillError;
+use std::io::Write;
+use std::rt::{Env, Files};
+use std::{fs, io, str};
+
+// The longest name that the system takes.
+const NAME_MOST: usize = 4096;
+
+// What the system says of an argument that is missing, of a name that is too long, and of one that is no text, which std opens no file by.
+const MISSING: i32 = 22;
+
+const TOO_LONG: i32 = 36;
+
+const NO_TEXT: i32 = 84;
 
 // Begins what is told on standard error.
-fn name_program(program: &[u8]) {
-    io::write_all(STDERR_FILENO, program);
-    io::write_all(STDERR_FILENO, b": ");
+fn name_program<W: Write>(told: &mut W, program: &[u8]) -> io::Result<()> {
+    told.write_all(program)?;
+    told.write_all(b": ")
 }
 
-// Tells why a file could not be opened or read.
-fn tell(program: &[u8], file: &[u8]) {
-    name_program(program);
-    os::fail(file);
+// Tells why a file could not be opened or read. That this fails itself can't be told.
+fn tell<W: Write>(told: &mut W, program: &[u8], file: &[u8], error: io::Error) {
+    if name_program(told, program).is_ok() {
+        input::fail(told, file, error);
+    }
 }
 
-// Reads the file into a buffer that is one byte longer than a table can be; answers its length, or -1 where it can't, which the program of this name tells.
-pub fn load(program: &[u8], argument: usize, table: &mut [u8]) -> isize
-    ensures { Moved (length table.old) result }
+fn tell_long<W: Write>(told: &mut W, program: &[u8], file: &[u8]) -> io::Result<()> {
+    name_program(told, program)?;
+    told.write_all(file)?;
+    told.write_all(b": longer than a table can be\n")
+}
+
+// The argument's bytes at the start of the buffer; answers how many they are.
+fn name_at<R: Env>(rt: &R, argument: usize, name: &mut [u8]) -> io::Result<usize>
+    ensures bound { WritesAtMost result name.new }
 {
-    let mut name = io::buffer();
-    let n = os::arg(argument, &mut name);
-    if os::errno() != 0 {
-        tell(program, b"a file's name");
-        return -1;
+    match rt.arg(argument, name) {
+        Ok(n) => Ok(n),
+        Err(FillError::NotPresent) => Err(io::Error::from_raw_os_error(MISSING)),
+        Err(FillError::TooLong) => Err(io::Error::from_raw_os_error(TOO_LONG)),
     }
-    let file = os::open_read(&name[..n]);
-    if file < 0 {
-        tell(program, &name[..n]);
-        return -1;
+}
+
+// Fills the buffer from the file of this name.
+fn read<R: Files>(rt: &R, name: &[u8], table: &mut [u8]) -> io::Result<usize>
+    ensures within { WritesAtMost result table.old }
+{
+    let Ok(path) = str::from_utf8(name) else {
+        return Err(io::Error::from_raw_os_error(NO_TEXT));
+    };
+    let mut file = fs::open(rt, path)?;
+    input::fill(&mut file, table)
+}
+
+// Reads the file into a buffer that is one byte longer than a table can be; answers its length, or nothing where it can't, which is told, to standard error,
+// as what the program of this name says.
+pub fn load<R: Env + Files, W: Write>(
+    rt: &R,
+    told: &mut W,
+    program: &[u8],
+    argument: usize,
+    table: &mut [u8],
+) -> Option<usize>
+    ensures within { IfSome result (λ n. n < length table.old) }
+{
+    let mut buffer = [0u8; NAME_MOST];
+    let n = match name_at(rt, argument, &mut buffer) {
+        Ok(n) => n,
+        Err(error) => {
+            tell(told, program, b"a file's name", error);
+            return None;
+        }
+    };
+    let name = &buffer[..n];
+    match read(rt, name, table) {
+        Ok(got) => {
+            if got < table.len() {
+                return Some(got);
+            }
+            let _ = tell_long(told, program, name);
+        }
+        Err(error) => tell(told, program, name, error),
     }
-    let got = input::fill(file, table);
-    if got < 0 {
-        tell(program, &name[..n]);
-    }
-    libc::close(file);
-    if io::count(got, table) == table.len() {
-        name_program(program);
-        io::write_all(STDERR_FILENO, &name[..n]);
-        io::write_all(STDERR_FILENO, b": longer than a table can be\n");
-        return -1;
-    }
-    got
+    None
 }
