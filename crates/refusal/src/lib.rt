@@ -41,6 +41,7 @@ pub const NO_SUCH_LANGUAGE: u8 = 17;
 pub const OTHER_DESK: u8 = 23;
 
 // Of two numbers the first that is not 0; 0 if both are.
+#[tactic(auto, unfolding(crate::specs::Refusal::first_refusal))]
 pub fn first_refusal(first: u8, second: u8) -> u8
     ensures { result ≡ first_refusal first second }
 {
