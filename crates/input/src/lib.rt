@@ -1,17 +1,24 @@
-// Reading an input to its end, with a failed read told apart from the end, and telling why a read or a write failed.
+// What the programs share: reading an input to its end, with a failed read told apart from the end, telling why a read or a write failed, and counting the
+// words of the command.
 #![tactic(auto)]
 
-ghost use Rattle.std.specs.Prelude.{◌≤◌, length, IfOk};
+ghost use Rattle.std.specs.Prelude.{◌≤◌, ◌<◌, length, take, IfOk};
+ghost use Rattle.std.specs.Io.KnownBytes.{Consumes, IsAtEnd};
 
+use std::env::FillError;
 use std::io::{Cursor, Read, Write};
+use std::rt::Env;
 use std::{io, str};
 
 // Longer than the text of any error.
 const TEXT_MOST: usize = 512;
 
-// Fills the buffer, or as much of it as the input has; answers how many bytes that is.
+// Fills the buffer, or as much of it as the input has; answers how many bytes that is. They are the next ones of an input whose bytes are known, and all of
+// them where the buffer has room left.
 pub fn fill<R: Read>(input: &mut R, buffer: &mut [u8]) -> io::Result<usize>
     ensures within { IfOk result (λ n. n ≤ length buffer.old) }
+    ensures bytes { IfOk result (λ n. Consumes (R.remaining input.old) (R.remaining input.new) (take n buffer.new)) }
+    ensures end { IfOk result (λ n. n < length buffer.old → IsAtEnd (R.remaining input.new)) }
 {
     let mut n = 0;
     while n < buffer.len() {
@@ -59,4 +66,17 @@ fn tell<W: Write>(to: &mut W, what: &[u8], error: io::Error) -> io::Result<()> {
 // Writes a line, to standard error: what failed, as the caller names it, a colon and the error's text. That this fails itself can't be told.
 pub fn fail<W: Write>(to: &mut W, what: &[u8], error: io::Error) {
     let _ = tell(to, what, error);
+}
+
+// How many words the command has, the program's name among them; no more than so many are counted.
+pub fn words<R: Env>(rt: &R, most: usize) -> usize
+    ensures at_most { result ≤ most }
+{
+    let mut buffer = [0u8; 1];
+    for i in 0..most {
+        if let Err(FillError::NotPresent) = rt.arg(i, &mut buffer) {
+            return i;
+        }
+    }
+    most
 }

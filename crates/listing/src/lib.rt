@@ -1,8 +1,9 @@
 // The messages of two tables of texts on standard output, one of them or all side by side.
-// What prints answers whether all of it was written, and stops where it was not.
+// What prints stops where not all of it was written.
 #![tactic(auto)]
 
-use libc::STDOUT_FILENO;
+use std::io;
+use std::io::Write;
 use texts::MOST_MESSAGES;
 
 const MOST_SPACES: usize = 16;
@@ -11,113 +12,107 @@ const SPACES: [u8; MOST_SPACES] = [b' '; MOST_SPACES];
 
 const MOST_ROWS: u32 = MOST_MESSAGES as u32;
 
-fn print_refused(refusal: u8, end: &[u8]) -> bool {
-    if !io::write_all(STDOUT_FILENO, b"refused ") {
-        return false;
-    }
-    if !io::print_decimal(STDOUT_FILENO, refusal as u64) {
-        return false;
-    }
-    io::write_all(STDOUT_FILENO, end)
+fn print_refused<W: Write>(out: &mut W, refusal: u8, end: &[u8]) -> io::Result<()> {
+    out.write_all(b"refused ")?;
+    write!(out, "{refusal}")?;
+    out.write_all(end)
 }
 
-fn print_spaces(count: usize) -> bool {
+fn print_spaces<W: Write>(out: &mut W, count: usize) -> io::Result<()> {
     let mut left = count;
     while left > MOST_SPACES {
-        if !io::write_all(STDOUT_FILENO, &SPACES) {
-            return false;
-        }
+        out.write_all(&SPACES)?;
         left -= MOST_SPACES;
     }
-    io::write_all(STDOUT_FILENO, &SPACES[..left])
+    out.write_all(&SPACES[..left])
 }
 
 // Prints one message, or its refusal, and no line end.
-pub fn print_one<'a>(first: &'a [u8], second: &'a [u8], language: u32, number: u32) -> bool {
+pub fn print_one<'a, W: Write>(
+    out: &mut W,
+    first: &'a [u8],
+    second: &'a [u8],
+    language: u32,
+    number: u32,
+) -> io::Result<()> {
     let mut refusal = 0u8;
     let text = texts::text(first, second, language, number, &mut refusal);
     if refusal != 0 {
-        return print_refused(refusal, b"");
+        return print_refused(out, refusal, b"");
     }
-    io::write_all(STDOUT_FILENO, text)
+    out.write_all(text)
 }
 
 // Prints one message, or its refusal, as a line.
-pub fn show_one<'a>(first: &'a [u8], second: &'a [u8], language: u32, number: u32) -> bool {
-    if !print_one(first, second, language, number) {
-        return false;
-    }
-    io::write_all(STDOUT_FILENO, b"\n")
+pub fn show_one<'a, W: Write>(
+    out: &mut W,
+    first: &'a [u8],
+    second: &'a [u8],
+    language: u32,
+    number: u32,
+) -> io::Result<()> {
+    print_one(out, first, second, language, number)?;
+    out.write_all(b"\n")
 }
 
 // How many characters the longest text of the first table has.
 fn widest<'a>(first: &'a [u8], second: &'a [u8]) -> usize {
     let mut most = 0;
-    let mut number = 0u32;
-    while number < MOST_ROWS {
+    for number in 0..MOST_ROWS {
         let mut refusal = 0u8;
         let text = texts::text(first, second, 1, number, &mut refusal);
         let width = utf8::characters(text);
         if most < width {
             most = width;
         }
-        number += 1;
     }
     most
 }
 
 // Prints a message's number in two columns, and two spaces.
-fn print_number(number: u32) -> bool {
+fn print_number<W: Write>(out: &mut W, number: u32) -> io::Result<()> {
     if number < 10 {
-        if !print_spaces(1) {
-            return false;
-        }
+        print_spaces(out, 1)?;
     }
-    if !io::print_decimal(STDOUT_FILENO, number as u64) {
-        return false;
-    }
-    print_spaces(2)
+    write!(out, "{number}")?;
+    print_spaces(out, 2)
 }
 
 // Prints a text behind the one on its left, which stands in so wide a column.
-fn print_beside(left: &[u8], width: usize, right: &[u8]) -> bool {
+fn print_beside<W: Write>(out: &mut W, left: &[u8], width: usize, right: &[u8]) -> io::Result<()> {
     let used = utf8::characters(left);
     if used < width {
-        if !print_spaces(width - used) {
-            return false;
-        }
+        print_spaces(out, width - used)?;
     }
-    if !print_spaces(2) {
-        return false;
-    }
-    io::write_all(STDOUT_FILENO, right)
+    print_spaces(out, 2)?;
+    out.write_all(right)
 }
 
 // Prints a message of both tables, the first's in so wide a column; nothing where neither table has it.
-fn show_row<'a>(first: &'a [u8], second: &'a [u8], number: u32, width: usize) -> bool {
+fn show_row<'a, W: Write>(
+    out: &mut W,
+    first: &'a [u8],
+    second: &'a [u8],
+    number: u32,
+    width: usize,
+) -> io::Result<()> {
     let mut left_refused = 0u8;
     let left = texts::text(first, second, 1, number, &mut left_refused);
     let mut right_refused = 0u8;
     let right = texts::text(first, second, 2, number, &mut right_refused);
     if (left_refused != 0) & (right_refused != 0) {
-        return true;
+        return Ok(());
     }
-    if !print_number(number) {
-        return false;
-    }
-    if !io::write_all(STDOUT_FILENO, left) {
-        return false;
-    }
+    print_number(out, number)?;
+    out.write_all(left)?;
     if right.len() != 0 {
-        if !print_beside(left, width, right) {
-            return false;
-        }
+        print_beside(out, left, width, right)?;
     }
-    io::write_all(STDOUT_FILENO, b"\n")
+    out.write_all(b"\n")
 }
 
 // Prints every message of both tables, or the refusal of one that is bad.
-pub fn show_all<'a>(first: &'a [u8], second: &'a [u8]) -> bool {
+pub fn show_all<'a, W: Write>(out: &mut W, first: &'a [u8], second: &'a [u8]) -> io::Result<()> {
     // a good table has a message 0
     let mut refusal = 0u8;
     texts::text(first, second, 1, 0, &mut refusal);
@@ -125,15 +120,11 @@ pub fn show_all<'a>(first: &'a [u8], second: &'a [u8]) -> bool {
         texts::text(first, second, 2, 0, &mut refusal);
     }
     if refusal != 0 {
-        return print_refused(refusal, b"\n");
+        return print_refused(out, refusal, b"\n");
     }
     let width = widest(first, second);
-    let mut number = 0u32;
-    while number < MOST_ROWS {
-        if !show_row(first, second, number, width) {
-            return false;
-        }
-        number += 1;
+    for number in 0..MOST_ROWS {
+        show_row(out, first, second, number, width)?;
     }
-    true
+    Ok(())
 }
