@@ -55,8 +55,8 @@ pub product_fits : (a b : ℕ) → a ≤ 4294967295 → b ≤ 4294967295 → a *
 product_fits a b p q = omega (arith, mul-le-mul p q)
 
 -- ---- the power of two that is stepped from, as a u32
-pub power_small : (zeros : ℕ) → (32 - zeros) / 2 ≤ 16
-power_small zeros = omega arith
+pub power_small : (leading : ℕ) → (32 - leading) / 2 ≤ 16
+power_small leading = omega arith
 
 pub power_range : (half : ℕ) → half ≤ 16 → (0 < (1 * 2 ^ half) % 2 ^ 32) × ((1 * 2 ^ half) % 2 ^ 32 ≤ limit)
 power_range half p =
