@@ -24,6 +24,7 @@ fn u16_of(low: u8, high: u8) -> u16
 }
 
 // The u16 `k` places after `at`, its low byte first.
+#[tactic(auto, using(crate::proofs::U16::u16_at_past), unfolding(crate::specs::Layout::u16_at))]
 pub fn u16_at(bytes: &[u8], at: usize, k: usize) -> u16
     ensures { result ≡ u16_at bytes.now (at + k) }
 {
@@ -36,6 +37,7 @@ pub fn u16_at(bytes: &[u8], at: usize, k: usize) -> u16
 }
 
 // The u16 from `at`, where both its bytes are known to be there: no test.
+#[tactic(auto, unfolding(crate::specs::Layout::u16_at))]
 pub fn u16_within(bytes: &[u8], at: usize) -> u16
     requires { at + 2 ≤ length bytes.now }
     ensures { result ≡ u16_at bytes.now at }
