@@ -1,4 +1,4 @@
--- A well_formed text has as many characters as scalar values: of each encoding all bytes but the first are 80..BF.
+-- A well-formed text has as many characters as scalar values: of each encoding all bytes but the first are 80..BF.
 -- By the size of the value, then by induction on the values.
 use Prim.Native.Nat.{ℕ, suc, ◌+◌, ◌/◌, ◌≤◌, ◌<◌}
 use native.Mathlib.Numerals.{add-one}

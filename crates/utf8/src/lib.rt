@@ -8,6 +8,7 @@ ghost use Rattle.utf8.specs.Rows.{is_trailing, row, two, three, four, width};
 ghost use Rattle.utf8.specs.Characters.{characters};
 
 // A byte behind the first.
+#[tactic(auto, unfolding(crate::specs::Rows::is_trailing))]
 fn is_trailing(byte: u8) -> bool
     ensures { result ≡ is_trailing byte }
 {
@@ -15,6 +16,7 @@ fn is_trailing(byte: u8) -> bool
 }
 
 // The first two bytes of a row: first..last, then low..high.
+#[tactic(auto, unfolding(crate::specs::Rows::row))]
 fn row(first: u8, last: u8, low: u8, high: u8, a: u8, b: u8) -> bool
     ensures { result ≡ row first last low high a b }
 {
@@ -22,12 +24,14 @@ fn row(first: u8, last: u8, low: u8, high: u8, a: u8, b: u8) -> bool
 }
 
 // The rows of two, three and four bytes.
+#[tactic(auto, unfolding(crate::specs::Rows::two))]
 fn two(a: u8, b: u8) -> bool
     ensures { result ≡ two a b }
 {
     row(0xc2, 0xdf, 0x80, 0xbf, a, b)
 }
 
+#[tactic(auto, using(crate::proofs::Encoding::any_of_four), unfolding(crate::specs::Rows::three))]
 fn three(a: u8, b: u8, c: u8) -> bool
     ensures { result ≡ three a b c }
 {
@@ -38,6 +42,7 @@ fn three(a: u8, b: u8, c: u8) -> bool
         & is_trailing(c)
 }
 
+#[tactic(auto, using(crate::proofs::Encoding::any_of_three), unfolding(crate::specs::Rows::four))]
 fn four(a: u8, b: u8, c: u8, d: u8) -> bool
     ensures { result ≡ four a b c d }
 {
