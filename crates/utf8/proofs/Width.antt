@@ -11,7 +11,7 @@ use lib.Seq.{drop-cons}
 use borrow.Author.Tests.{lt-leb, leb-true}
 use Rattle.numbers.proofs.Tests.{le_or_lt}
 use Rattle.utf8.specs.Utf8.{Scalar, trailing, encoding}
-use Rattle.utf8.specs.Rows.{row, one, two, three, four, width}
+use Rattle.utf8.specs.Rows.{one, two, three, four, width}
 use Rattle.utf8.proofs.Encoding.{
   Sized,
   in_one,

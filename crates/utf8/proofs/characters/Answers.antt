@@ -8,8 +8,8 @@ pub loop-at-preserved : goal.loop-at-preserved
 loop-at-preserved c =
     let next = next_counted c.args.bytes.now c.loop-at.at c.loop-at-test.true in
     elim c.if-not-is_trailing.branch [
-      then-not-is_trailing w ↦ let e = rw (sym c.is_trailing.ensures ∙ w.if-not-is_trailing.true) at next in omega arith
-    | else-not-is_trailing w ↦ let e = rw (sym c.is_trailing.ensures ∙ w.if-not-is_trailing.false) at next in omega arith
+      | then-not-is_trailing w ↦ let e = rw (sym c.is_trailing.ensures ∙ w.if-not-is_trailing.true) at next in omega arith
+      | else-not-is_trailing w ↦ let e = rw (sym c.is_trailing.ensures ∙ w.if-not-is_trailing.false) at next in omega arith
     ]
 
 pub returns : goal.returns
