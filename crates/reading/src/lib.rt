@@ -66,6 +66,7 @@ pub fn speed_of(x: f32) -> Speed
 }
 
 // The paper's number of the refusal, 0 where there is none.
+#[tactic(auto, unfolding(crate::specs::Speed::speed_refusal))]
 pub fn speed_refusal(speed: Speed) -> u8
     ensures { result ≡ speed_refusal speed }
 {
@@ -76,6 +77,7 @@ pub fn speed_refusal(speed: Speed) -> u8
 }
 
 // v, 0 where refused.
+#[tactic(auto, unfolding(crate::specs::Speed::speed_value))]
 pub fn speed_value(speed: Speed) -> u16
     ensures { result ≡ speed_value speed }
 {
@@ -112,6 +114,7 @@ pub fn pressure_of(x: f32) -> Pressure
 }
 
 // The paper's number of the refusal, 0 where there is none.
+#[tactic(auto, unfolding(crate::specs::Pressure::pressure_refusal))]
 pub fn pressure_refusal(pressure: Pressure) -> u8
     ensures { result ≡ pressure_refusal pressure }
 {
@@ -122,6 +125,7 @@ pub fn pressure_refusal(pressure: Pressure) -> u8
 }
 
 // The band, 0 where refused.
+#[tactic(auto, unfolding(crate::specs::Pressure::pressure_band))]
 pub fn pressure_band(pressure: Pressure) -> u8
     ensures { result ≡ pressure_band pressure }
 {

@@ -1,4 +1,4 @@
--- `reading::pressure_of` meets its contract: of an x that is at least zero each test of the code is one of the definition's on its fraction.
+-- `pressure_of` meets its contract: of an x that is at least zero each test of the code is one of the definition's on its fraction.
 use mathlib.Core.Path.{◌≡◌, refl, sym, ◌∙◌}
 use Prim.Native.Nat.{◌*◌}
 use native.Mathlib.Nat.{one-mul}
@@ -11,8 +11,7 @@ use Rattle.reading.specs.Pressure.{band_at, pressure_at, pressure_of}
 use Rattle.reading.specs.declared.Pressure.{Pressure}
 use Rattle.reading.specs.declared.Pressure.TheVariants.{Band, Refused}
 use Rattle.reading.proofs.Number.{zero, refused, lt_is, le_is}
-use Rattle.reading.proofs.pressure_of.Statement.{statement}
-use Rattle.reading.proofs.pressure_of.Tie as tie
+use Rattle.reading.proofs.pressure_of.Goals as goal
 
 -- the answer, by what `x <= 10.0`, `x < 3.5` and `x < 4.5` say
 abbrev answer : Bool → Bool → Bool → Pressure
@@ -35,29 +34,22 @@ by_tests x a b c h α β γ = go x (sym (le_is x 5 (pos 1) h) ∙ α) (sym (lt_i
         spread true a b c = refl
         spread false a b c = refl
 
-returns : tie.Need-returns
+pub returns-then-x-3 : goal.returns-then-x-3
 unfolding of_bits
-returns c = by_tests _ true true _ c.before.before.if1.true c.before.if2.true c.if3.true refl
+returns-then-x-3 c = by_tests _ true true _ c.if-x.true c.if-x-2.true c.if-x-3.true refl
 
-returns-2 : tie.Need-returns-2
+pub returns-then-x-4 : goal.returns-then-x-4
 unfolding of_bits
-returns-2 c =
-    let within = c.before.before in
-    by_tests _ true false true within.before.if1.true within.if2.true c.before.if3.false c.if4.true
+returns-then-x-4 c = by_tests _ true false true c.if-x.true c.if-x-2.true c.if-x-3.false c.if-x-4.true
 
-returns-3 : tie.Need-returns-3
+pub returns-then-x-2 : goal.returns-then-x-2
 unfolding of_bits
-returns-3 c =
-    let within = c.before.before in
-    by_tests _ true false false within.before.if1.true within.if2.true c.before.if3.false c.if4.false
+returns-then-x-2 c = by_tests _ true false false c.if-x.true c.if-x-2.true c.if-x-3.false c.if-x-4.false
 
-returns-4 : tie.Need-returns-4
+pub returns-else-x-2 : goal.returns-else-x-2
 unfolding of_bits
-returns-4 c = by_tests _ false _ _ c.before.if1.true c.if2.false refl refl
+returns-else-x-2 c = by_tests _ false _ _ c.if-x.true c.if-x-2.false refl refl
 
-returns-5 : tie.Need-returns-5
+pub returns-else-x : goal.returns-else-x
 unfolding of_bits pressure_of
-returns-5 c = sym (refused _ _ _ c.if1.false)
-
-pub pressure_of_spec : {M : Type 1} → statement M
-pressure_of_spec = tie.close (tie.spec returns returns-2 returns-3 returns-4 returns-5)
+returns-else-x c = sym (refused _ _ _ c.if-x.false)
