@@ -1,5 +1,4 @@
-// The archive: the calls that a host program links, but for the step back, why and exercises.
-// host/foldharbor.h declares them, and their structs, for C and C++.
+// The calls that a host program links, but for the step back, why and exercises: crate `foldharbor_c` exports them.
 #![tactic(auto)]
 
 ghost use Rattle.std.specs.Prelude.{◌≡◌, length};
@@ -26,37 +25,32 @@ fn bytes_put(width: usize, room: usize) -> usize
     if room < width { 0 } else { width }
 }
 
-#[unsafe(no_mangle)]
-pub extern "C" fn foldharbor_version() -> u32
+pub fn foldharbor_version() -> u32
     ensures { result ≡ version }
 {
     VERSION
 }
 
-#[unsafe(no_mangle)]
-pub extern "C" fn foldharbor_open(card: Card) -> Outcome
+pub fn foldharbor_open(card: Card) -> Outcome
     ensures { result ≡ open_outcome card }
 {
     Desk::open(card)
 }
 
-#[unsafe(no_mangle)]
-pub extern "C" fn foldharbor_tick(desk: Desk, sample: Sample, journal: &mut [u8]) -> Outcome
+pub fn foldharbor_tick(desk: Desk, sample: Sample, journal: &mut [u8]) -> Outcome
     ensures outcome { result ≡ tick_outcome desk sample journal.old }
     ensures journal { journal.new ≡ tick_journal desk sample journal.old }
 {
     desk.tick(sample, journal)
 }
 
-#[unsafe(no_mangle)]
-pub extern "C" fn foldharbor_restart(desk: Desk) -> Outcome
+pub fn foldharbor_restart(desk: Desk) -> Outcome
     ensures { result ≡ restart_outcome desk }
 {
     desk.restart()
 }
 
-#[unsafe(no_mangle)]
-pub extern "C" fn foldharbor_card_at(bytes: &[u8]) -> Card
+pub fn foldharbor_card_at(bytes: &[u8]) -> Card
     ensures { result ≡ card_from bytes.now }
 {
     if bytes.len() < CARD_WIDTH {
@@ -65,8 +59,7 @@ pub extern "C" fn foldharbor_card_at(bytes: &[u8]) -> Card
     card::card_at(bytes, 0)
 }
 
-#[unsafe(no_mangle)]
-pub extern "C" fn foldharbor_put_card(card: Card, bytes: &mut [u8]) -> usize
+pub fn foldharbor_put_card(card: Card, bytes: &mut [u8]) -> usize
     ensures count { result ≡ bytes_put card_width (length bytes.old) }
     ensures bytes { bytes.new ≡ put_card bytes.old 0 card }
 {
@@ -75,8 +68,7 @@ pub extern "C" fn foldharbor_put_card(card: Card, bytes: &mut [u8]) -> usize
     count
 }
 
-#[unsafe(no_mangle)]
-pub extern "C" fn foldharbor_answer_at(bytes: &[u8]) -> Answer
+pub fn foldharbor_answer_at(bytes: &[u8]) -> Answer
     ensures { result ≡ answer_from bytes.now }
 {
     if bytes.len() < ANSWER_WIDTH {
@@ -85,8 +77,7 @@ pub extern "C" fn foldharbor_answer_at(bytes: &[u8]) -> Answer
     rules::answer_at(bytes, 0)
 }
 
-#[unsafe(no_mangle)]
-pub extern "C" fn foldharbor_put_answer(answer: Answer, bytes: &mut [u8]) -> usize
+pub fn foldharbor_put_answer(answer: Answer, bytes: &mut [u8]) -> usize
     ensures count { result ≡ bytes_put answer_width (length bytes.old) }
     ensures bytes { bytes.new ≡ put_answer bytes.old 0 answer }
 {
@@ -96,13 +87,7 @@ pub extern "C" fn foldharbor_put_answer(answer: Answer, bytes: &mut [u8]) -> usi
 }
 
 // A text's place and not the text: an exported function can't return a reference.
-#[unsafe(no_mangle)]
-pub extern "C" fn foldharbor_text<'a>(
-    first: &'a [u8],
-    second: &'a [u8],
-    language: u32,
-    number: u32,
-) -> Place
+pub fn foldharbor_text<'a>(first: &'a [u8], second: &'a [u8], language: u32, number: u32) -> Place
     ensures { result ≡ text_place (chosen language first.entry second.entry).now language number }
 {
     texts::text_place(first, second, language, number)

@@ -1,4 +1,4 @@
-// The archive's step back, in an object of its own: there its loop is the one place that calls for a tick, which the compiler then takes into the loop.
+// The step back that a host program links: crate `foldharbor_back_c` exports it.
 #![tactic(auto)]
 
 ghost use Rattle.std.specs.Prelude.{◌≡◌};
@@ -6,8 +6,7 @@ ghost use Rattle.desk.specs.Calls.{back_outcome};
 
 use desk::{Desk, Outcome};
 
-#[unsafe(no_mangle)]
-pub extern "C" fn foldharbor_step_back(desk: Desk, k: u32, journal: &[u8]) -> Outcome
+pub fn foldharbor_step_back(desk: Desk, k: u32, journal: &[u8]) -> Outcome
     ensures { result ≡ back_outcome desk k journal.now }
 {
     desk.step_back(k, journal)

@@ -1,4 +1,4 @@
-// The archive's calls on an exercise, in an object of their own, as the step back is.
+// The calls on an exercise that a host program links: crate `foldharbor_exercise_c` exports them.
 #![tactic(auto)]
 
 ghost use Rattle.std.specs.Prelude.{◌≡◌, length};
@@ -11,15 +11,13 @@ use file::Counts;
 // An exercise that is refused gives this plus the number of the refusal.
 const REFUSED: u32 = 10000;
 
-#[unsafe(no_mangle)]
-pub extern "C" fn foldharbor_read_exercise(exercise: &[u8]) -> Counts
+pub fn foldharbor_read_exercise(exercise: &[u8]) -> Counts
     ensures { result ≡ read_outcome exercise.now }
 {
     file::read(exercise)
 }
 
-#[unsafe(no_mangle)]
-pub extern "C" fn foldharbor_run_exercise(exercise: &[u8], card: u32, answers: &mut [u8]) -> u32
+pub fn foldharbor_run_exercise(exercise: &[u8], card: u32, answers: &mut [u8]) -> u32
     ensures number { result ≡ host_number (exercise_outcome exercise.now card (length answers.old)) }
     ensures answers { answers.new ≡ exercise_buffer exercise.now card answers.old }
 {

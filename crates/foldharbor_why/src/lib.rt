@@ -1,4 +1,4 @@
-// The archive's call that tells why the valve is open, in an object of its own, as the step back is.
+// The call that tells a host program why the valve is open: crate `foldharbor_why_c` exports it.
 #![tactic(auto)]
 
 ghost use Rattle.std.specs.Prelude.{◌≡◌};
@@ -7,8 +7,7 @@ ghost use Rattle.why.specs.Why.{why_outcome};
 use desk::Desk;
 use why::Reasons;
 
-#[unsafe(no_mangle)]
-pub extern "C" fn foldharbor_why(desk: Desk, journal: &[u8]) -> Reasons
+pub fn foldharbor_why(desk: Desk, journal: &[u8]) -> Reasons
     ensures { result ≡ why_outcome desk journal.now }
 {
     why::why(desk, journal)
