@@ -8,6 +8,7 @@ use mathlib.Core.List.{List, []}
 use base.Logic.{ent, emp, id⊢}
 use borrow.Fn.World.{World, Pr}
 use denote.Ref.{Bor}
+use denote.MutBor.{MutBor}
 use denote.Triple.Clauses.{Ended, Lasts, AtExit, at_exit}
 use denote.Triple.Entry.{Args, Res}
 use contract.Lifetimes.{Lfts}
@@ -25,35 +26,38 @@ use Rattle.file.specs.Read.{read_outcome}
 use Rattle.exercise.specs.Run.{exercise_outcome, exercise_buffer}
 use Rattle.foldharbor_exercise.specs.Exercise.{host_number}
 use Rattle.desk.proofs.Desk.open.Reads as opening
-use Rattle.desk.specs.contracts.Desk.tick as tickCall
+use Rattle.desk.specs.contracts.Desk.tick as tick_call
 use Rattle.desk.proofs.Desk.tick.Reads as ticking
-use Rattle.desk.specs.contracts.Desk.step_back as backCall
+use Rattle.desk.specs.contracts.Desk.step_back as back_call
 use Rattle.desk.proofs.Desk.step_back.Reads as backing
 use Rattle.desk.proofs.Desk.restart.Reads as restarting
-use Rattle.why.specs.contracts.why as whyCall
+use Rattle.why.specs.contracts.why as why_call
 use Rattle.why.proofs.why.Reads as telling
-use Rattle.file.specs.contracts.read as readCall
+use Rattle.file.specs.contracts.read as read_call
 use Rattle.file.proofs.read.Reads as reading
-use Rattle.exercise.specs.contracts.run as runCall
+use Rattle.exercise.specs.contracts.run as run_call
 use Rattle.exercise.proofs.run.Reads as running
-use Rattle.foldharbor.proofs.foldharbor_open.Reads as exportedOpening
-use Rattle.foldharbor.specs.contracts.foldharbor_tick as exportedTickCall
-use Rattle.foldharbor.proofs.foldharbor_tick.Reads as exportedTicking
-use Rattle.foldharbor_back.specs.contracts.foldharbor_step_back as exportedBackCall
-use Rattle.foldharbor_back.proofs.foldharbor_step_back.Reads as exportedBacking
-use Rattle.foldharbor.proofs.foldharbor_restart.Reads as exportedRestarting
-use Rattle.foldharbor_why.specs.contracts.foldharbor_why as exportedWhyCall
-use Rattle.foldharbor_why.proofs.foldharbor_why.Reads as exportedTelling
-use Rattle.foldharbor_exercise.specs.contracts.foldharbor_read_exercise as exportedReadCall
-use Rattle.foldharbor_exercise.proofs.foldharbor_read_exercise.Reads as exportedReading
-use Rattle.foldharbor_exercise.specs.contracts.foldharbor_run_exercise as hostCall
+use Rattle.foldharbor.proofs.foldharbor_open.Reads as exported_opening
+use Rattle.foldharbor.specs.contracts.foldharbor_tick as exported_tick_call
+use Rattle.foldharbor.proofs.foldharbor_tick.Reads as exported_ticking
+use Rattle.foldharbor_back.specs.contracts.foldharbor_step_back as exported_back_call
+use Rattle.foldharbor_back.proofs.foldharbor_step_back.Reads as exported_backing
+use Rattle.foldharbor.proofs.foldharbor_restart.Reads as exported_restarting
+use Rattle.foldharbor_why.specs.contracts.foldharbor_why as exported_why_call
+use Rattle.foldharbor_why.proofs.foldharbor_why.Reads as exported_telling
+use Rattle.foldharbor_exercise.specs.contracts.foldharbor_read_exercise as exported_read_call
+use Rattle.foldharbor_exercise.proofs.foldharbor_read_exercise.Reads as exported_reading
+use Rattle.foldharbor_exercise.specs.contracts.foldharbor_run_exercise as host_call
 use Rattle.foldharbor_exercise.proofs.foldharbor_run_exercise.Reads as hosting
 use Rattle.demands.specs.Functions.{Functions}
 use Rattle.demands.specs.Demand1.{Returning}
 
--- a slice that is lent, and what it holds
+-- a slice that is lent to be read, and what it holds; one that is lent to be written
 abbrev Lent : List ℕ → Type 0
 Lent bytes = (slice : Bor (List ℕ)) × (slice.now ≡ bytes)
+
+abbrev LentToWrite : List ℕ → Type 0
+LentToWrite bytes = (slice : MutBor (List ℕ)) × (slice.now ≡ bytes)
 
 -- what a call asks of its caller is there, from nothing
 abbrev FromNothing : ((w : World) → Pr w) → Type 2
@@ -77,59 +81,59 @@ functions =
       opens = λ card out. (κs : Lfts 0) × (exit : _) × opening.Post κs (card, tt) out exit;
       opens_asks = λ card. (κs : Lfts 0) → FromNothing (opening.requires κs (card, tt) tt);
       ticks = λ desk sample journal out left.
-          (κs : Lfts 1) × (j : Lent journal)
-          × Returned tickCall.ended ticking.Post κs (desk, (sample, (j.0, tt))) out (λ exit. exit.1.1.0.now ≡ left);
-      ticks_asks = λ desk sample journal. (κs : Lfts 1) (j : Lent journal) → FromNothing (ticking.requires κs (desk, (sample, (j.0, tt))) tt);
+          (κs : Lfts 1) × (j : LentToWrite journal)
+          × Returned tick_call.ended ticking.Post κs (desk, (sample, (j.0, tt))) out (λ exit. exit.1.1.0.now ≡ left);
+      ticks_asks = λ desk sample journal. (κs : Lfts 1) (j : LentToWrite journal) → FromNothing (ticking.requires κs (desk, (sample, (j.0, tt))) tt);
       steps_back = λ desk k journal out left.
           (κs : Lfts 1) × (j : Lent journal)
-          × Returned backCall.ended backing.Post κs (desk, (k, (j.0, tt))) out (λ exit. exit.1.1.0.now ≡ left);
+          × Returned back_call.ended backing.Post κs (desk, (k, (j.0, tt))) out (λ exit. exit.1.1.0.now ≡ left);
       steps_back_asks = λ desk k journal. (κs : Lfts 1) (j : Lent journal) → FromNothing (backing.requires κs (desk, (k, (j.0, tt))) tt);
       restarts = λ desk out. (κs : Lfts 0) × (exit : _) × restarting.Post κs (desk, tt) out exit;
       restarts_asks = λ desk. (κs : Lfts 0) → FromNothing (restarting.requires κs (desk, tt) tt);
       tells = λ desk journal reasons left.
-          (κs : Lfts 1) × (j : Lent journal) × Returned whyCall.ended telling.Post κs (desk, (j.0, tt)) reasons (λ exit. exit.1.0.now ≡ left);
+          (κs : Lfts 1) × (j : Lent journal) × Returned why_call.ended telling.Post κs (desk, (j.0, tt)) reasons (λ exit. exit.1.0.now ≡ left);
       tells_asks = λ desk journal. (κs : Lfts 1) (j : Lent journal) → FromNothing (telling.requires κs (desk, (j.0, tt)) tt);
-      reads = λ file counts file-left.
-          (κs : Lfts 1) × (f : Lent file) × Returned readCall.ended reading.Post κs (f.0, tt) counts (λ exit. exit.0.now ≡ file-left);
+      reads = λ file counts file_left.
+          (κs : Lfts 1) × (f : Lent file) × Returned read_call.ended reading.Post κs (f.0, tt) counts (λ exit. exit.0.now ≡ file_left);
       reads_asks = λ file. (κs : Lfts 1) (f : Lent file) → FromNothing (reading.requires κs (f.0, tt) tt);
-      runs = λ file card buffer total file-left left.
-          (κs : Lfts 2) × (f : Lent file) × (b : Lent buffer)
-          × Returned runCall.ended running.Post κs (f.0, (card, (b.0, tt))) total
-          (λ exit. (exit.0.now ≡ file-left) × (exit.1.1.0.now ≡ left));
+      runs = λ file card buffer total file_left left.
+          (κs : Lfts 2) × (f : Lent file) × (b : LentToWrite buffer)
+          × Returned run_call.ended running.Post κs (f.0, (card, (b.0, tt))) total
+          (λ exit. (exit.0.now ≡ file_left) × (exit.1.1.0.now ≡ left));
       runs_asks = λ file card buffer.
-          (κs : Lfts 2) (f : Lent file) (b : Lent buffer) → FromNothing (running.requires κs (f.0, (card, (b.0, tt))) tt);
-      hosts = λ file card buffer number file-left left.
-          (κs : Lfts 2) × (f : Lent file) × (b : Lent buffer)
-          × Returned hostCall.ended hosting.Post κs (f.0, (card, (b.0, tt))) number
-          (λ exit. (exit.0.now ≡ file-left) × (exit.1.1.0.now ≡ left));
+          (κs : Lfts 2) (f : Lent file) (b : LentToWrite buffer) → FromNothing (running.requires κs (f.0, (card, (b.0, tt))) tt);
+      hosts = λ file card buffer number file_left left.
+          (κs : Lfts 2) × (f : Lent file) × (b : LentToWrite buffer)
+          × Returned host_call.ended hosting.Post κs (f.0, (card, (b.0, tt))) number
+          (λ exit. (exit.0.now ≡ file_left) × (exit.1.1.0.now ≡ left));
       hosts_asks = λ file card buffer.
-          (κs : Lfts 2) (f : Lent file) (b : Lent buffer) → FromNothing (hosting.requires κs (f.0, (card, (b.0, tt))) tt);
+          (κs : Lfts 2) (f : Lent file) (b : LentToWrite buffer) → FromNothing (hosting.requires κs (f.0, (card, (b.0, tt))) tt);
     }
 
 -- the calls of the archive; `exercise::run` itself is not exported, so `runs` is the function's and `hosts` the archive's call
 pub exported : Functions
 exported =
     record {
-      opens = λ card out. (κs : Lfts 0) × (exit : _) × exportedOpening.Post κs (card, tt) out exit;
-      opens_asks = λ card. (κs : Lfts 0) → FromNothing (exportedOpening.requires κs (card, tt) tt);
+      opens = λ card out. (κs : Lfts 0) × (exit : _) × exported_opening.Post κs (card, tt) out exit;
+      opens_asks = λ card. (κs : Lfts 0) → FromNothing (exported_opening.requires κs (card, tt) tt);
       ticks = λ desk sample journal out left.
-          (κs : Lfts 1) × (j : Lent journal)
-          × Returned exportedTickCall.ended exportedTicking.Post κs (desk, (sample, (j.0, tt))) out (λ exit. exit.1.1.0.now ≡ left);
-      ticks_asks = λ desk sample journal. (κs : Lfts 1) (j : Lent journal) → FromNothing (exportedTicking.requires κs (desk, (sample, (j.0, tt))) tt);
+          (κs : Lfts 1) × (j : LentToWrite journal)
+          × Returned exported_tick_call.ended exported_ticking.Post κs (desk, (sample, (j.0, tt))) out (λ exit. exit.1.1.0.now ≡ left);
+      ticks_asks = λ desk sample journal. (κs : Lfts 1) (j : LentToWrite journal) → FromNothing (exported_ticking.requires κs (desk, (sample, (j.0, tt))) tt);
       steps_back = λ desk k journal out left.
           (κs : Lfts 1) × (j : Lent journal)
-          × Returned exportedBackCall.ended exportedBacking.Post κs (desk, (k, (j.0, tt))) out (λ exit. exit.1.1.0.now ≡ left);
-      steps_back_asks = λ desk k journal. (κs : Lfts 1) (j : Lent journal) → FromNothing (exportedBacking.requires κs (desk, (k, (j.0, tt))) tt);
-      restarts = λ desk out. (κs : Lfts 0) × (exit : _) × exportedRestarting.Post κs (desk, tt) out exit;
-      restarts_asks = λ desk. (κs : Lfts 0) → FromNothing (exportedRestarting.requires κs (desk, tt) tt);
+          × Returned exported_back_call.ended exported_backing.Post κs (desk, (k, (j.0, tt))) out (λ exit. exit.1.1.0.now ≡ left);
+      steps_back_asks = λ desk k journal. (κs : Lfts 1) (j : Lent journal) → FromNothing (exported_backing.requires κs (desk, (k, (j.0, tt))) tt);
+      restarts = λ desk out. (κs : Lfts 0) × (exit : _) × exported_restarting.Post κs (desk, tt) out exit;
+      restarts_asks = λ desk. (κs : Lfts 0) → FromNothing (exported_restarting.requires κs (desk, tt) tt);
       tells = λ desk journal reasons left.
           (κs : Lfts 1) × (j : Lent journal)
-          × Returned exportedWhyCall.ended exportedTelling.Post κs (desk, (j.0, tt)) reasons (λ exit. exit.1.0.now ≡ left);
-      tells_asks = λ desk journal. (κs : Lfts 1) (j : Lent journal) → FromNothing (exportedTelling.requires κs (desk, (j.0, tt)) tt);
-      reads = λ file counts file-left.
+          × Returned exported_why_call.ended exported_telling.Post κs (desk, (j.0, tt)) reasons (λ exit. exit.1.0.now ≡ left);
+      tells_asks = λ desk journal. (κs : Lfts 1) (j : Lent journal) → FromNothing (exported_telling.requires κs (desk, (j.0, tt)) tt);
+      reads = λ file counts file_left.
           (κs : Lfts 1) × (f : Lent file)
-          × Returned exportedReadCall.ended exportedReading.Post κs (f.0, tt) counts (λ exit. exit.0.now ≡ file-left);
-      reads_asks = λ file. (κs : Lfts 1) (f : Lent file) → FromNothing (exportedReading.requires κs (f.0, tt) tt);
+          × Returned exported_read_call.ended exported_reading.Post κs (f.0, tt) counts (λ exit. exit.0.now ≡ file_left);
+      reads_asks = λ file. (κs : Lfts 1) (f : Lent file) → FromNothing (exported_reading.requires κs (f.0, tt) tt);
       runs = functions.runs;
       runs_asks = functions.runs_asks;
       hosts = functions.hosts;
@@ -160,9 +164,9 @@ same_tells : (desk : Desk) (journal : List ℕ) (reasons : Reasons) (left : List
 unfolding functions exported
 same_tells desk journal reasons left = refl
 
-same_reads : (file : List ℕ) (counts : Counts) (file-left : List ℕ) → exported.reads file counts file-left ≡ functions.reads file counts file-left
+same_reads : (file : List ℕ) (counts : Counts) (file_left : List ℕ) → exported.reads file counts file_left ≡ functions.reads file counts file_left
 unfolding functions exported
-same_reads file counts file-left = refl
+same_reads file counts file_left = refl
 
 pub exported_same : exported ≡ functions
 unfolding functions exported
@@ -196,13 +200,13 @@ pub tells_is : (d : Desk) (journal : List ℕ) (x : Reasons) (left : List ℕ) �
 unfolding functions
 tells_is d journal x left f = (f.2.post ∙ ap (why_outcome d) f.1.1, sym f.2.leaves ∙ f.1.1)
 
-pub reads_is : (file : List ℕ) (c : Counts) (file-left : List ℕ) → functions.reads file c file-left → (c ≡ read_outcome file) × (file-left ≡ file)
+pub reads_is : (file : List ℕ) (c : Counts) (file_left : List ℕ) → functions.reads file c file_left → (c ≡ read_outcome file) × (file_left ≡ file)
 unfolding functions
-reads_is file c file-left f = (f.2.post ∙ ap read_outcome f.1.1, sym f.2.leaves ∙ f.1.1)
+reads_is file c file_left f = (f.2.post ∙ ap read_outcome f.1.1, sym f.2.leaves ∙ f.1.1)
 
-module _ (file : List ℕ) (card : ℕ) (buffer file-left left : List ℕ) where
-  pub runs_is : (x : Total) → functions.runs file card buffer x file-left left
-      → (x ≡ exercise_outcome file card (length buffer)) × (file-left ≡ file) × (left ≡ exercise_buffer file card buffer)
+module _ (file : List ℕ) (card : ℕ) (buffer file_left left : List ℕ) where
+  pub runs_is : (x : Total) → functions.runs file card buffer x file_left left
+      → (x ≡ exercise_outcome file card (length buffer)) × (file_left ≡ file) × (left ≡ exercise_buffer file card buffer)
   unfolding functions
   runs_is x f = (
     f.3.post.0 ∙ ap₂ (λ (a b : List ℕ). exercise_outcome a card (length b)) f.1.1 f.2.1,
@@ -210,8 +214,8 @@ module _ (file : List ℕ) (card : ℕ) (buffer file-left left : List ℕ) where
     sym f.3.leaves.1 ∙ f.3.post.1 ∙ ap₂ (λ (a b : List ℕ). exercise_buffer a card b) f.1.1 f.2.1,
   )
 
-  pub hosts_is : (x : ℕ) → functions.hosts file card buffer x file-left left
-      → (x ≡ host_number (exercise_outcome file card (length buffer))) × (file-left ≡ file) × (left ≡ exercise_buffer file card buffer)
+  pub hosts_is : (x : ℕ) → functions.hosts file card buffer x file_left left
+      → (x ≡ host_number (exercise_outcome file card (length buffer))) × (file_left ≡ file) × (left ≡ exercise_buffer file card buffer)
   unfolding functions
   hosts_is x f = (
     f.3.post.0 ∙ ap₂ (λ (a b : List ℕ). host_number (exercise_outcome a card (length b))) f.1.1 f.2.1,
@@ -223,6 +227,9 @@ module _ (file : List ℕ) (card : ℕ) (buffer file-left left : List ℕ) where
 -- some slice with these bytes
 abbrev lent : (bytes : List ℕ) → Lent bytes
 lent bytes = (record { ref_ptr = (0, 0); now = bytes }, refl)
+
+abbrev lent_to_write : (bytes : List ℕ) → LentToWrite bytes
+lent_to_write bytes = (record { ref_ptr = (0, 0); ghost_name = 0; now = bytes }, refl)
 
 from_nothing : (w : World) → ent w.𝓤 (emp w.𝓤) (emp w.𝓤)
 from_nothing w = id⊢ w.𝓤 (emp w.𝓤)
@@ -236,7 +243,7 @@ returning = record {
         λ κs j. from_nothing,
         tick_outcome d x J,
         K,
-        (([], tt), lent J, record { last = (tt, (tt, (K, tt))); post = (refl, refl); leaves = refl }),
+        (([], tt), lent_to_write J, record { last = (tt, (tt, (K, tt))); post = (refl, refl); leaves = refl }),
       );
   step_back = λ d k J. (λ κs j. from_nothing, back_outcome d k J, J, (([], tt), lent J, record { last = (tt, (tt, (tt, tt))); post = refl; leaves = refl }));
   restart = λ d. (λ κs. from_nothing, restart_outcome d, (tt, (d, tt), refl));
@@ -248,7 +255,7 @@ returning = record {
         exercise_outcome file card (length B),
         file,
         C,
-        (([], ([], tt)), lent file, lent B, record { last = (tt, (tt, (C, tt))); post = (refl, refl); leaves = (refl, refl) }),
+        (([], ([], tt)), lent file, lent_to_write B, record { last = (tt, (tt, (C, tt))); post = (refl, refl); leaves = (refl, refl) }),
       );
   host = λ file card B.
       let C = exercise_buffer file card B in (
@@ -256,6 +263,6 @@ returning = record {
         host_number (exercise_outcome file card (length B)),
         file,
         C,
-        (([], ([], tt)), lent file, lent B, record { last = (tt, (tt, (C, tt))); post = (refl, refl); leaves = (refl, refl) }),
+        (([], ([], tt)), lent file, lent_to_write B, record { last = (tt, (tt, (C, tt))); post = (refl, refl); leaves = (refl, refl) }),
       );
 }

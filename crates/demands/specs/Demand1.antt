@@ -13,7 +13,7 @@ use Rattle.demands.specs.Functions.{Functions}
 use Rattle.demands.specs.Ranges.{zero_desk, zero_answer, zero_reasons}
 
 -- whatever is handed over, the call may be made, and something is returned that its contract allows. `left` is the journal or the buffer afterwards,
--- `file-left` the file
+-- `file_left` the file
 pub record Returning (F : Functions) : Type 2 where
   pub opening : (card : Card) → F.opens_asks card × (out : Outcome) × F.opens card out
   pub tick : (desk : Desk) (sample : Sample) (journal : List ℕ) → F.ticks_asks desk sample journal
@@ -23,11 +23,11 @@ pub record Returning (F : Functions) : Type 2 where
   pub restart : (desk : Desk) → F.restarts_asks desk × (out : Outcome) × F.restarts desk out
   pub why : (desk : Desk) (journal : List ℕ) → F.tells_asks desk journal
       × (reasons : Reasons) × (left : List ℕ) × F.tells desk journal reasons left
-  pub reader : (file : List ℕ) → F.reads_asks file × (counts : Counts) × (file-left : List ℕ) × F.reads file counts file-left
+  pub reader : (file : List ℕ) → F.reads_asks file × (counts : Counts) × (file_left : List ℕ) × F.reads file counts file_left
   pub exercise : (file : List ℕ) (card : ℕ) (buffer : List ℕ) → F.runs_asks file card buffer
-      × (total : Total) × (file-left left : List ℕ) × F.runs file card buffer total file-left left
+      × (total : Total) × (file_left left : List ℕ) × F.runs file card buffer total file_left left
   pub host : (file : List ℕ) (card : ℕ) (buffer : List ℕ) → F.hosts_asks file card buffer
-      × (number : ℕ) × (file-left left : List ℕ) × F.hosts file card buffer number file-left left
+      × (number : ℕ) × (file_left left : List ℕ) × F.hosts file card buffer number file_left left
 
 unfoldable pub OneOf : List ℕ → ℕ → Type 0
 OneOf [] x = ⊥
@@ -54,13 +54,13 @@ pub record Demand1 (F : Functions) : Type 2 where
       (reasons.refusal ≡ 0 → ⊥) → OneOf (5 ∷ 6 ∷ 9 ∷ 23 ∷ 14 ∷ []) reasons.refusal
       × (reasons ≡ zero_reasons reasons.refusal) × (left ≡ journal)
   -- the reader and the exercise: counts of zeros
-  pub reader : (file : List ℕ) (counts : Counts) (file-left : List ℕ) → F.reads file counts file-left →
+  pub reader : (file : List ℕ) (counts : Counts) (file_left : List ℕ) → F.reads file counts file_left →
       (counts.refusal ≡ 0 → ⊥) → OneOf (10 ∷ 4 ∷ 11 ∷ 9 ∷ []) counts.refusal
-      × (counts.cards ≡ 0) × (counts.runs ≡ 0) × (counts.ticks ≡ 0) × (file-left ≡ file)
-  pub exercise : (file : List ℕ) (card : ℕ) (buffer : List ℕ) (total : Total) (file-left left : List ℕ) →
-      F.runs file card buffer total file-left left → (total.refusal ≡ 0 → ⊥) →
-      OneOf (10 ∷ 4 ∷ 13 ∷ 11 ∷ 9 ∷ 12 ∷ []) total.refusal × (total.ticks ≡ 0) × (file-left ≡ file) × (left ≡ buffer)
+      × (counts.cards ≡ 0) × (counts.runs ≡ 0) × (counts.ticks ≡ 0) × (file_left ≡ file)
+  pub exercise : (file : List ℕ) (card : ℕ) (buffer : List ℕ) (total : Total) (file_left left : List ℕ) →
+      F.runs file card buffer total file_left left → (total.refusal ≡ 0 → ⊥) →
+      OneOf (10 ∷ 4 ∷ 13 ∷ 11 ∷ 9 ∷ 12 ∷ []) total.refusal × (total.ticks ≡ 0) × (file_left ≡ file) × (left ≡ buffer)
   -- no exercise has more than 7,200 ticks: a greater number is a refusal
-  pub host : (file : List ℕ) (card : ℕ) (buffer : List ℕ) (number : ℕ) (file-left left : List ℕ) →
-      F.hosts file card buffer number file-left left → 7200 < number →
-      OneOf (10010 ∷ 10004 ∷ 10013 ∷ 10011 ∷ 10009 ∷ 10012 ∷ []) number × (file-left ≡ file) × (left ≡ buffer)
+  pub host : (file : List ℕ) (card : ℕ) (buffer : List ℕ) (number : ℕ) (file_left left : List ℕ) →
+      F.hosts file card buffer number file_left left → 7200 < number →
+      OneOf (10010 ∷ 10004 ∷ 10013 ∷ 10011 ∷ 10009 ∷ 10012 ∷ []) number × (file_left ≡ file) × (left ≡ buffer)
