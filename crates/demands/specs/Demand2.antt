@@ -79,16 +79,16 @@ pub record Demand2 (F : Functions) : Type 0 where
       × (out.refusal ≡ 0 → Begins desk.card out)
   pub why : (desk : Desk) (journal : List ℕ) (reasons : Reasons) (left : List ℕ) → F.tells desk journal reasons left →
       ExactlyWhen reasons.refusal (why_reasons desk journal) × Promise desk journal reasons × (left ≡ journal)
-  pub reader : (file : List ℕ) (counts : Counts) (file-left : List ℕ) → F.reads file counts file-left →
+  pub reader : (file : List ℕ) (counts : Counts) (file_left : List ℕ) → F.reads file counts file_left →
       ExactlyWhen counts.refusal (read_reasons file)
       × (counts.refusal ≡ 0 → (counts.cards ≡ card_count file) × (counts.runs ≡ run_count file) × (counts.ticks ≡ tick_count file)
-      × (file-left ≡ file))
-  pub exercise : (file : List ℕ) (card : ℕ) (buffer : List ℕ) (total : Total) (file-left left : List ℕ) →
-      F.runs file card buffer total file-left left →
+      × (file_left ≡ file))
+  pub exercise : (file : List ℕ) (card : ℕ) (buffer : List ℕ) (total : Total) (file_left left : List ℕ) →
+      F.runs file card buffer total file_left left →
       ExactlyWhen total.refusal (exercise_reasons file card buffer)
-      × (total.refusal ≡ 0 → (total.ticks ≡ tick_count file) × (file-left ≡ file) × Driven file × Answered file card buffer left)
+      × (total.refusal ≡ 0 → (total.ticks ≡ tick_count file) × (file_left ≡ file) × Driven file × Answered file card buffer left)
   -- a refusal is 10,000 plus its number: what is above 10,000 is that number, 0 where the call is accepted
-  pub host : (file : List ℕ) (card : ℕ) (buffer : List ℕ) (number : ℕ) (file-left left : List ℕ) →
-      F.hosts file card buffer number file-left left →
+  pub host : (file : List ℕ) (card : ℕ) (buffer : List ℕ) (number : ℕ) (file_left left : List ℕ) →
+      F.hosts file card buffer number file_left left →
       ExactlyWhen (number - 10000) (exercise_reasons file card buffer)
-      × (number - 10000 ≡ 0 → (number ≡ tick_count file) × (number ≤ 7200) × (file-left ≡ file) × Driven file × Answered file card buffer left)
+      × (number - 10000 ≡ 0 → (number ≡ tick_count file) × (number ≤ 7200) × (file_left ≡ file) × Driven file × Answered file card buffer left)

@@ -42,7 +42,7 @@ pub record Valve (F : Functions) : Type 0 where
   pub step_back : (desk : Desk) (k : ℕ) (journal : List ℕ) (out : Outcome) (left : List ℕ) →
       F.steps_back desk k journal out left → out.refusal ≡ 0 → OfOutcome out
   pub restart : (desk : Desk) (out : Outcome) → F.restarts desk out → out.refusal ≡ 0 → OfOutcome out
-  pub exercise : (file : List ℕ) (card : ℕ) (buffer : List ℕ) (total : Total) (file-left left : List ℕ) →
-      F.runs file card buffer total file-left left → total.refusal ≡ 0 → OfEach file card left
-  pub host : (file : List ℕ) (card : ℕ) (buffer : List ℕ) (number : ℕ) (file-left left : List ℕ) →
-      F.hosts file card buffer number file-left left → number - 10000 ≡ 0 → OfEach file card left
+  pub exercise : (file : List ℕ) (card : ℕ) (buffer : List ℕ) (total : Total) (file_left left : List ℕ) →
+      F.runs file card buffer total file_left left → total.refusal ≡ 0 → OfEach file card left
+  pub host : (file : List ℕ) (card : ℕ) (buffer : List ℕ) (number : ℕ) (file_left left : List ℕ) →
+      F.hosts file card buffer number file_left left → number - 10000 ≡ 0 → OfEach file card left
