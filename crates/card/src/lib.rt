@@ -36,6 +36,7 @@ const SHORT_WAIT: u16 = 250;
 
 pub const LONG_WAIT: u16 = 1000;
 
+#[tactic(auto, unfolding(crate::specs::Card::card_in_range))]
 pub fn card_in_range(card: Card) -> bool
     ensures { result ≡ card_in_range card }
 {
@@ -77,6 +78,7 @@ pub fn no_card() -> Card
 }
 
 // The card in the 20 bytes from `at`.
+#[tactic(auto, unfolding(crate::specs::Card::card_at))]
 pub fn card_at(bytes: &[u8], at: usize) -> Card
     requires { at + card_width ≤ length bytes.now }
     ensures { result ≡ card_at bytes.now at }
