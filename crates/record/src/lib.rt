@@ -113,6 +113,7 @@ pub struct Keys {
 }
 
 // `buttons` are those of the tick before.
+#[tactic(auto, unfolding(crate::specs::Flags::keys_of, crate::specs::Flags::pressed))]
 pub fn keys_of(flags: u8, buttons: u8) -> Keys
     ensures { result ≡ keys_of flags buttons }
 {
@@ -130,6 +131,7 @@ pub fn keys_of(flags: u8, buttons: u8) -> Keys
 // The highest band.
 pub const TOP_BAND: u8 = 2;
 
+#[tactic(auto, unfolding(crate::specs::Record::record_in_range))]
 pub fn record_in_range(reading: Record) -> bool
     ensures { result ≡ record_in_range reading }
 {
@@ -143,6 +145,7 @@ pub fn record_in_range(reading: Record) -> bool
         & (reading.sense <= REVERSE)
 }
 
+#[tactic(auto, unfolding(crate::specs::Sample::record_refusal))]
 fn record_refusal(reading: Record) -> u8
     ensures { result ≡ record_refusal reading }
 {
@@ -153,6 +156,7 @@ fn record_refusal(reading: Record) -> u8
     }
 }
 
+#[tactic(auto, unfolding(crate::specs::Sample::sample_refusal, crate::specs::Sample::sample_record))]
 pub fn take_sample(sample: Sample) -> Taken
     ensures { (result.refusal ≡ sample_refusal sample) × (result.record ≡ sample_record sample) }
 {
@@ -183,6 +187,7 @@ pub const MOST_TICKS: u16 = 7200;
 pub const RECORD_WIDTH: usize = 8;
 
 // The record in the 8 bytes from `at`.
+#[tactic(auto, unfolding(crate::specs::Record::record_at))]
 pub fn record_at(bytes: &[u8], at: usize) -> Record
     requires { at + record_width ≤ length bytes.now }
     ensures { result ≡ record_at bytes.now at }
