@@ -10,5 +10,5 @@ if [ ! -f "$here/crates/$name/src/main.rt" ]; then
     exit 2
 fi
 shift
-bash "$here/prove.sh" check "$name"
-exec sh "$here/host/run.sh" "$here/target/bin/$name" "$@"
+bash "$here/prove.sh" "$name"
+exec sh "$here/host/run.sh" "$here/crates/$name/out/$name" "$@"

@@ -1,5 +1,5 @@
 #!/usr/bin/env bash
-# All tests: the proofs, the must-fail edits and the programs by `rt ci`, layout and documents, then the checks on the host.
+# All tests: the proofs, the must-fail edits and the programs by `rt ci`, the documents, then the checks on the host.
 # The last line is 'N passed, M failed'; the status is 0 only if M is 0 and every part ran.
 set -u
 cd "$(dirname "$0")" || exit 1
@@ -29,7 +29,7 @@ same() {
 
 # with_journal DRIVE: whether the lines and the journal of DRIVE.drive are DRIVE.txt
 with_journal() {
-    same "$1.txt" sh host/run.sh target/bin/drive journal <"$1.drive"
+    same "$1.txt" sh host/run.sh crates/drive/out/drive journal <"$1.drive"
 }
 
 # both_languages COMMAND..: whether what the command prints names NZ4, message 3, in both languages
@@ -61,12 +61,7 @@ need cmp diffutils
 need g++ g++
 need pkg-config pkgconf
 need script bsdutils
-if [ "$(uname -m)" = x86_64 ]; then
-    need cc gcc libc6-dev
-else
-    need clang clang libc6-dev
-    need ld.lld lld
-fi
+need cc gcc libc6-dev
 
 # rt ci counts for itself: its last line has the numbers
 rt ci 2>&1 | tee "$log"
@@ -80,23 +75,27 @@ else
 fi
 # a status that the numbers do not tell, such as a file that no listed crate has
 [ "$status" = 0 ] || [ "$failed" != 0 ] || failed=1
-check "rt fmt --check" rt fmt --check
+# a must-fail edit that can't be applied or read fails nothing there, and shows nothing
+if [[ $(grep '^rt: ok;' "$log") =~ must-fail\ edits:[^\;]*,\ ([0-9]+)\ bad ]]; then
+    failed=$((failed + BASH_REMATCH[1]))
+    echo "FAILED  must-fail edits that are bad: ${BASH_REMATCH[1]}"
+fi
 check "docs name what is there" bash docs/check.sh
+check "the archive" sh host/build.sh
 check "wrong builds that their own crates prove" bash tests/contracts.sh
 check "texts in both languages, table and messages" bash texts/check.sh
 
 for exercise in tests/exercises/*.ex; do
-    check "show $exercise" same "${exercise%.ex}.txt" sh host/run.sh target/bin/show <"$exercise"
+    check "show $exercise" same "${exercise%.ex}.txt" sh host/run.sh crates/show/out/show <"$exercise"
 done
 for drive in tests/drives/*.drive; do
     case $drive in
     */journal-*) check "drive journal $drive" with_journal "${drive%.drive}" ;;
-    *) check "drive $drive" same "${drive%.drive}.txt" sh host/run.sh target/bin/drive <"$drive" ;;
+    *) check "drive $drive" same "${drive%.drive}.txt" sh host/run.sh crates/drive/out/drive <"$drive" ;;
     esac
 done
 
 made=target/host
-check "the archive" sh host/build.sh
 # compile NAME SOURCES..: a program of the tests, by the names of its sources in host/tests/
 compile() {
     local name=$1

@@ -26,7 +26,7 @@ program() {
     shift
     case $name in
         header) sh "$root/host/run.sh" "$root/target/host/header" "$@" ;;
-        *) sh "$root/host/run.sh" "$root/target/bin/$name" "$@" ;;
+        *) sh "$root/host/run.sh" "$root/crates/$name/out/$name" "$@" ;;
     esac
 }
 # write HEX..: these bytes

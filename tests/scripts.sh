@@ -15,7 +15,7 @@ gives() {
     [ "$(cat "$room/out")" = "$3" ] || miss "$1: printed $(head -c 300 "$room/out")"
     [ "$(cat "$room/err")" = "$4" ] || miss "$1: told $(head -c 300 "$room/err")"
 }
-program() { sh host/run.sh "target/bin/$1" "${@:2}"; }
+program() { sh host/run.sh "crates/$1/out/$1" "${@:2}"; }
 full() { "$@" >/dev/full; }
 
 # ---- show.sh, as it is and with --why: where the exercise comes from, and the status

@@ -7,7 +7,7 @@ bash texts/tables.sh || miss "no tables of texts"
 
 for exercise in crates/show/stdin tests/exercises/*.ex; do
     sh host/run.sh target/host/told texts/slovak.txt texts/english.txt <"$exercise" >"$room/told" || miss "told fails on $exercise"
-    sh host/run.sh target/bin/explain target/texts/slovak.table target/texts/english.table <"$exercise" | diff - "$room/told" ||
+    sh host/run.sh crates/explain/out/explain target/texts/slovak.table target/texts/english.table <"$exercise" | diff - "$room/told" ||
         miss "explain tells something else of $exercise"
     cat "$room/told" >>"$room/all"
 done

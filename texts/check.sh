@@ -2,7 +2,7 @@
 # Whether the texts fit together, and whether the programs `table` and `messages`, which are built, do what they say with them and with bad ones.
 cd "$(dirname "$0")/.." || exit 1
 . tests/begin.sh
-program() { sh host/run.sh "target/bin/$1" "${@:2}"; }
+program() { sh host/run.sh "crates/$1/out/$1" "${@:2}"; }
 
 # ---- the files: line for line the same messages, listed in README.md from 0 on, composed, nothing but text
 lines=$(wc -l <texts/slovak.txt)

@@ -272,9 +272,6 @@ int main(int count, char **arguments)
 {
     if (count > 1)
         turns = atol(arguments[1]);
-#ifdef EMULATED
-    printf("Under an emulator: times and ratios are not those of hardware.\n");
-#endif
     make_exercise(MANY_RUNS, FOLDHARBOR_MOST_TICKS);
     if (!same_runs())
         return differ();
