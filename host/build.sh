@@ -14,7 +14,8 @@ archive=$root/target/archive/libfoldharbor.a
 
 # out/ is rt's own, and each crate's folder changes with it
 is_new() {
-    [ -f "$archive" ] && [ ! "$root/crates.txt" -nt "$archive" ] && [ -z "$(find "$root/crates" -mindepth 2 -name out -prune -o -newer "$archive" -print -quit)" ]
+    [ -f "$archive" ] && [ ! "$root/crates.txt" -nt "$archive" ] &&
+        [ -z "$(find "$root/crates" -mindepth 2 -name out -prune -o -newer "$archive" -print -quit)" ]
 }
 if [ -z "${LIBRARY-}" ] && ! is_new; then
     echo "the archive is missing or older than a source: it is proved and made first" >&2

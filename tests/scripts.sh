@@ -130,6 +130,11 @@ for words in "" none numbers; do
     run bash program.sh $words
     gives "program.sh $words" 2 "" "usage: bash program.sh NAME ARGUMENTS.., where NAME is one of: $programs"
 done
+for words in "" none numbers; do
+    # shellcheck disable=SC2086
+    run bash prove.sh $words
+    gives "prove.sh $words" 2 "" "usage: bash prove.sh NAME, where NAME is a program or a static library of crates.txt"
+done
 run sh host/run.sh "$room/none"
 [ "$status" = 2 ] && grep -q "there is no $room/none: " "$room/err" || miss "run.sh does not tell that a program is missing"
 
@@ -188,59 +193,77 @@ run bash host/install.sh "$room/usr"
 
 # ---- while something is proved: a tree with a space in its name, whose `rt` writes down its words and makes what it is asked for
 tree="$room/a tree"
-mkdir -p "$tree/crates/show/src" "$tree/crates/explain/src" "$tree/bin" "$tree/host"
-cp prove.sh program.sh show.sh "$tree"
+objects=$(sed -n 's/^objects="\([^"]*\)".*/\1/p' host/build.sh)
+mkdir -p "$tree/bin" "$tree/host"
+cp prove.sh program.sh show.sh crates.txt "$tree"
 cp host/*.sh "$tree/host"
 cp -r texts "$tree"
+for name in show explain table $objects; do
+    mkdir -p "$tree/crates/$name/src"
+done
+touch "$tree"/crates/{show,explain,table}/src/main.rt
 cp crates/show/stdin "$tree/crates/show"
-touch "$tree/crates.txt" "$tree/crates/show/src/main.rt" "$tree/crates/explain/src/main.rt"
 cat >"$tree/bin/rt" <<'RT'
 #!/bin/sh
 [ "$1" != doc ] || exec "$REAL_RT" doc
-echo "$*" >>called
+name=$(basename "$PWD")
+echo "$1 $name" >>../../called
 cat # standard input is the program's: rt must get none of it
-echo "rt: numbers proved (unchanged since it was last proved)"
-echo "rt: file proved (3 s)"
-[ -z "${FAIL-}" ] || { echo "crates/show/src/main.rt:1:1: error: made up"; exit 1; }
-mkdir -p target/bin target/staticlib target/stamp
-[ "$1" != check ] || cp "$HERE/target/bin/$2" target/bin
-touch "target/stamp/$2"
-[ "$1" != staticlib ] || echo "!<arch>" >"target/staticlib/lib$2.a" # an archive of nothing
+echo "rt: file: begins with what a check kept elsewhere"
+echo "rt: chose --jobs 2 for file"
+[ -z "${FAIL-}" ] || { echo "src/main.rt:1:1: error: made up"; exit 1; }
+echo "logic=proved functions=2"
+mkdir -p out
+[ "$1" != run ] || cp "$HERE/crates/$name/out/$name" out
+[ "$1" != lib ] || echo "!<arch>" >"out/lib$name.a" # an archive of nothing
 RT
 cat >"$tree/bin/compiler" <<'CC'
 #!/bin/sh
 echo "$*" >compiled
 CC
 chmod +x "$tree"/bin/*
-made_up() { env -C "$tree" PATH="$tree/bin:$PATH" HERE="$here" REAL_RT="$(command -v rt)" "$@"; }
+# its proofs take no time, and would be told to take a second where one begins meanwhile
+made_up() {
+    env -C "$tree" PATH="$tree/bin:$PATH" HERE="$here" REAL_RT="$(command -v rt)" "$@" 2>"$room/told"
+    local status=$?
+    sed 's/([0-9]* s)$/(0 s)/' "$room/told" >&2
+    return $status
+}
 first="is proved and built first, which takes up to some minutes"
 # fails PROGRAM WORDS..: whether show.sh with these words ends where the program can't be proved
 fails() {
     FAIL=1 run made_up bash show.sh "${@:2}"
-    [ "$status" = 2 ] && [ ! -s "$room/out" ] && grep -q "error: made up" "$room/err" && grep -q "^.rt check $1. failed: " "$room/err" ||
+    [ "$status" = 2 ] && [ ! -s "$room/out" ] && grep -q "error: made up" "$room/err" && grep -q "^.rt run. in crates/$1 failed: " "$room/err" ||
         miss "show.sh ${*:2} where the proof fails: $status, $(cat "$room/out" "$room/err")"
 }
 fails show
 fails table --why
 run made_up bash show.sh - <crates/show/stdin
-gives "show.sh, first run" 0 "$paper" "$(printf '%s\n' "show $first" "file proved (3 s)")"
+gives "show.sh, first run" 0 "$paper" "$(printf '%s\n' "show $first" "file proved (0 s)")"
 run made_up bash show.sh --why - <crates/show/stdin
-gives "show.sh --why, first run" 0 "$why" \
-    "$(printf '%s\n' "table $first" "file proved (3 s)" "file proved (3 s)" "explain $first" "file proved (3 s)")"
+gives "show.sh --why, first run" 0 "$why" "$(printf '%s\n' "table $first" "file proved (0 s)" "explain $first" "file proved (0 s)")"
+rm "$tree/called"
 run made_up bash show.sh - <crates/show/stdin
-gives "show.sh, a source changed" 0 "$paper" "file proved (3 s)"
+gives "show.sh, nothing changed" 0 "$paper" ""
+[ ! -e "$tree/called" ] || miss "show.sh proves what has not changed"
+for changed in crates.txt crates/table/src crates/table/src/main.rt; do
+    touch "$tree/$changed"
+    run made_up bash show.sh - <crates/show/stdin
+    gives "show.sh, $changed changed" 0 "$paper" "file proved (0 s)"
+done
+touch "$tree/crates.txt"
+fails show
 rm "$tree/called"
 
 # the archive is made where it is missing and where a source is newer, and not else
-objects=$(sed -n 's/^objects="\([^"]*\)".*/\1/p' host/build.sh)
 # shellcheck disable=SC2086
-made=$(printf 'staticlib %s\n' $objects)
+made=$(printf 'lib %s\n' $objects)
 run made_up sh host/build.sh
 [ "$(cat "$tree/called")" = "$made" ] || miss "build.sh does not make an archive that is missing"
 run made_up sh host/build.sh
 gives "build.sh with an archive" 0 "" ""
 [ "$(cat "$tree/called")" = "$made" ] || miss "build.sh makes an archive that is there"
-touch -t 200001010000 "$tree/target/archive/libfoldharbor.a"
+touch "$tree/crates/show/src/main.rt"
 rm "$tree/called"
 CC="compiler -first" CFLAGS="-O0 -g" run made_up sh host/build.sh "a folder/a program" "-option" "a source.c"
 [ "$status" = 0 ] && [ "$(cat "$tree/called")" = "$made" ] || miss "build.sh does not make an archive that is older than a source"
@@ -248,7 +271,8 @@ compiled=$(cat "$tree/compiled")
 [[ $compiled == *"-first "*"-O2 "*"-O0 -g "*"-option a source.c "*"libfoldharbor.a -o a folder/a program"* ]] || miss "build.sh calls: $compiled"
 CC=none run made_up sh host/build.sh a b
 gives "build.sh with no compiler" 2 "" "no compiler none: install it, or name yours by CC=.."
-FAIL=1 run made_up sh -c 'rm target/archive/*; sh host/build.sh a b'
+touch "$tree/crates.txt"
+FAIL=1 run made_up sh host/build.sh a b
 [ "$status" = 1 ] && [ ! -e "$tree/target/archive" ] && grep -q "error: made up" "$room/err" || miss "build.sh goes on where the proof fails"
 # what another header and archive are named for needs none of this tree
 rm "$tree/called"
@@ -265,10 +289,13 @@ run made_up bash host/install.sh "a place/"
     miss "install.sh does not make the archive first"
 run sh host/build.sh a
 gives "build.sh on one word" 2 "" "usage: sh host/build.sh [OUT SOURCES..]"
-if ! PATH=/usr/bin:/bin command -v rt >/dev/null; then
-    PATH=/usr/bin:/bin run bash prove.sh check show
-    gives "prove.sh with no kit" 2 "" "rt, the command of the Rattle kit, is not on the PATH: put the kit's folder bin there"
-fi
+mkdir "$room/nothing"
+for word in bash cat dirname find grep; do
+    ln -s "$(command -v $word)" "$room/nothing"
+done
+touch "$tree/crates.txt"
+PATH=$room/nothing run bash "$tree/prove.sh" show
+gives "prove.sh with no kit" 2 "" "rt, the command of the Rattle kit, is not on the PATH: put the kit's folder bin there"
 
 # ---- every script parses
 for script in ./*.sh host/*.sh texts/*.sh tests/*.sh docs/*.sh .ci/run; do
