@@ -4,7 +4,9 @@
 // That a file can't be read, or the output not be written, is told on standard error and ends the program.
 #![tactic(auto)]
 
-use libc::STDERR_FILENO;
+use std::io;
+use std::io::Write;
+use std::rt::Env;
 use texts::MOST_BYTES;
 
 // What a word says.
@@ -41,56 +43,58 @@ fn number_of(word: &[u8]) -> Said {
 }
 
 // The number that an argument says.
-fn number_at(argument: usize) -> Said {
+fn number_at<R: Env>(rt: &R, argument: usize) -> Said {
     let mut word = [0u8; 16];
-    let n = os::arg(argument, &mut word);
-    number_of(&word[..n])
-}
-
-// Tells where not all of the output was written.
-fn written(all: bool) {
-    if !all {
-        os::fail(b"messages: standard output");
+    match rt.arg(argument, &mut word) {
+        Ok(n) => number_of(&word[..n]),
+        Err(_) => Said::Nothing,
     }
 }
 
-fn usage() {
-    io::write_all(
-        STDERR_FILENO,
-        b"usage: messages FIRST SECOND [LANGUAGE NUMBER]\n",
-    );
+fn usage(rt: HostRuntime) {
+    let _ = rt
+        .stderr()
+        .write_all(b"usage: messages FIRST SECOND [LANGUAGE NUMBER]\n");
 }
 
-fn main() {
-    let words = os::arg_count();
+// Tells where not all of the output was written.
+fn written(rt: HostRuntime, answer: io::Result<()>) {
+    if let Err(error) = answer {
+        input::fail(&mut rt.stderr(), b"messages: standard output", error);
+    }
+}
+
+fn main(rt: HostRuntime) {
+    let words = input::words(&rt, 6);
     if (words != 3) & (words != 5) {
-        usage();
+        usage(rt);
         return;
     }
     // one byte longer than a table can be
     let mut first = [0u8; MOST_BYTES + 1];
     let mut second = [0u8; MOST_BYTES + 1];
-    let got = tables::load(b"messages", 1, &mut first);
-    if got < 0 {
+    let mut err = rt.stderr();
+    let Some(n) = tables::load(&rt, &mut err, b"messages", 1, &mut first) else {
         return;
-    }
-    let other = tables::load(b"messages", 2, &mut second);
-    if other < 0 {
+    };
+    let Some(m) = tables::load(&rt, &mut err, b"messages", 2, &mut second) else {
         return;
-    }
-    let n = io::count(got, &first);
-    let m = io::count(other, &second);
+    };
+    let mut out = rt.stdout();
     if words == 3 {
-        written(listing::show_all(&first[..n], &second[..m]));
+        written(rt, listing::show_all(&mut out, &first[..n], &second[..m]));
         return;
     }
-    let Said::Number(language) = number_at(3) else {
-        usage();
+    let Said::Number(language) = number_at(&rt, 3) else {
+        usage(rt);
         return;
     };
-    let Said::Number(number) = number_at(4) else {
-        usage();
+    let Said::Number(number) = number_at(&rt, 4) else {
+        usage(rt);
         return;
     };
-    written(listing::show_one(&first[..n], &second[..m], language, number));
+    written(
+        rt,
+        listing::show_one(&mut out, &first[..n], &second[..m], language, number),
+    );
 }

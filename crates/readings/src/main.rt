@@ -2,7 +2,8 @@
 // That the output can't be written is told on standard error and ends the program.
 #![tactic(auto)]
 
-use libc::STDOUT_FILENO;
+use std::io;
+use std::io::Write;
 
 const PATTERNS: [u32; 35] = [
     0x00000000, // zero
@@ -42,43 +43,37 @@ const PATTERNS: [u32; 35] = [
     0xffffffff, // NaN, all ones
 ];
 
-// A space, and a number or `refused`. This and what prints below answer whether all of it was written.
-fn print(refusal: u8, number: u64) -> bool {
+// A space, and a number or `refused`.
+fn print<W: Write>(out: &mut W, refusal: u8, number: u64) -> io::Result<()> {
     if refusal != 0 {
-        return io::write_all(STDOUT_FILENO, b" refused");
+        return out.write_all(b" refused");
     }
-    if !io::write_all(STDOUT_FILENO, b" ") {
-        return false;
-    }
-    io::print_decimal(STDOUT_FILENO, number)
+    write!(out, " {number}")
 }
 
-fn print_line(bits: u32) -> bool {
+fn print_line<W: Write>(out: &mut W, bits: u32) -> io::Result<()> {
     let x = reading::float_of_bits(bits);
-    if !io::print_hex(STDOUT_FILENO, bits as u64, 8) {
-        return false;
-    }
+    write!(out, "{bits:08x}")?;
     let speed = reading::speed_of(x);
-    if !print(
+    print(
+        out,
         reading::speed_refusal(speed),
         reading::speed_value(speed) as u64,
-    ) {
-        return false;
-    }
+    )?;
     let pressure = reading::pressure_of(x);
-    if !print(
+    print(
+        out,
         reading::pressure_refusal(pressure),
         reading::pressure_band(pressure) as u64,
-    ) {
-        return false;
-    }
-    io::write_all(STDOUT_FILENO, b"\n")
+    )?;
+    out.write_all(b"\n")
 }
 
-fn main() {
-    for i in 0..PATTERNS.len() {
-        if !print_line(PATTERNS[i]) {
-            os::fail(b"readings: standard output");
+fn main(rt: HostRuntime) {
+    let mut out = rt.stdout();
+    for bits in PATTERNS {
+        if let Err(error) = print_line(&mut out, bits) {
+            input::fail(&mut rt.stderr(), b"readings: standard output", error);
             return;
         }
     }

@@ -3,54 +3,46 @@
 // That the input can't be read, or the table not be written, is told there too.
 #![tactic(auto)]
 
-use libc::{STDERR_FILENO, STDIN_FILENO, STDOUT_FILENO};
 use lines::{Fault, Made};
+use std::io;
+use std::io::Write;
 use texts::MOST_BYTES;
 
-fn tell(fault: Fault, line: usize) {
-    io::write_all(STDERR_FILENO, b"table: line ");
-    io::print_decimal(STDERR_FILENO, line as u64);
+// What a fault is told as.
+fn words_of(fault: Fault) -> &'static [u8] {
     match fault {
-        Fault::NoLine => {
-            io::write_all(
-                STDERR_FILENO,
-                b": there is none, and a table has at least one message\n",
-            );
-        }
-        Fault::TooMany => {
-            io::write_all(
-                STDERR_FILENO,
-                b": one too many, a table has at most 64 messages\n",
-            );
-        }
-        Fault::TooLong => {
-            io::write_all(
-                STDERR_FILENO,
-                b": the table would be longer than 65535 bytes\n",
-            );
-        }
-        Fault::NotUtf8 => {
-            io::write_all(STDERR_FILENO, b": it is not UTF-8\n");
-        }
+        Fault::NoLine => b"there is none, and a table has at least one message",
+        Fault::TooMany => b"one too many, a table has at most 64 messages",
+        Fault::TooLong => b"the table would be longer than 65535 bytes",
+        Fault::NotUtf8 => b"it is not UTF-8",
     }
 }
 
-fn main() {
+fn tell<W: Write>(to: &mut W, fault: Fault, line: usize) -> io::Result<()> {
+    write!(to, "table: line {line}: ")?;
+    to.write_all(words_of(fault))?;
+    to.write_all(b"\n")
+}
+
+fn main(rt: HostRuntime) {
     // longer than the lines of any table, so that a cut input is never taken for a whole one
     let mut text = [0u8; MOST_BYTES + 1];
-    let got = input::fill(STDIN_FILENO, &mut text);
-    if got < 0 {
-        os::fail(b"table: standard input");
-        return;
-    }
-    let n = io::count(got, &text);
+    let n = match input::fill(&mut rt.stdin(), &mut text) {
+        Ok(n) => n,
+        Err(error) => {
+            input::fail(&mut rt.stderr(), b"table: standard input", error);
+            return;
+        }
+    };
     let mut table = [0u8; MOST_BYTES];
     match lines::make(&text[..n], &mut table) {
         Made::Table(_, length) => {
-            if !io::write_all(STDOUT_FILENO, &table[..length]) {
-                os::fail(b"table: standard output");
+            if let Err(error) = rt.stdout().write_all(&table[..length]) {
+                input::fail(&mut rt.stderr(), b"table: standard output", error);
             }
         }
-        Made::Bad(fault, line) => tell(fault, line),
+        Made::Bad(fault, line) => {
+            let _ = tell(&mut rt.stderr(), fault, line);
+        }
     }
 }
