@@ -1,7 +1,8 @@
 #!/usr/bin/env bash
 # Whether the documents name what is there: definitions `crate/File.name`, laws `crate/proofs/File.name`, functions `crate::name`
 # and edits `crate/name` of RULES.md and CONTRACTS.md exist, CONTRACTS.md lists every edit, and every link leads to a file.
-# And whether each exported function gets into the archive, is declared in the header, stands in CONTRACTS.md and has its lemmas.
+# And whether each exported function gets into the archive, is declared in the header, and hands on to the function of its name in the crate below, with
+# the same parameters and clauses; and that one stands in CONTRACTS.md and has its lemmas.
 cd "$(dirname "$0")/.." || exit 1
 missing=0
 miss() {
@@ -12,7 +13,7 @@ names=$(grep -oh '`[^`]*`' docs/RULES.md docs/CONTRACTS.md | tr -d '`' | sort -u
 for name in $names; do
     crate=${name%%/*}
     last=${name##*.}
-    if [[ $name =~ ^[a-z0-9_]+/(proofs/)?[A-Z][A-Za-z0-9]*\.[A-Za-z0-9?-]+$ ]]; then
+    if [[ $name =~ ^[a-z0-9_]+/(proofs/)?[A-Z][A-Za-z0-9]*\.[A-Za-z0-9_?\'-]+$ ]]; then
         file=${name#"$crate"/}
         [[ $file == proofs/* ]] || file=specs/$file
         grep -Eq "^ *((abbrev|unfoldable|record|data|pub) )*${last/\?/\\?}( |\$)" "crates/$crate/${file%.*}.antt" 2>/dev/null || miss "no $name"
@@ -28,15 +29,20 @@ for edit in crates/*/must-fail/*.edit; do
     name=${name/\/must-fail/}
     grep -qF "\`${name%.edit}\`" docs/CONTRACTS.md || miss "not in CONTRACTS.md: ${name%.edit}"
 done
+# function_of NAME FILE: parameters and clauses of the function, however they are laid out
+function_of() { sed -nE "/^pub (extern \"C\" )?fn $1(<.*>)?\(/,/^}/p" "$2" | sed 's/^pub extern "C" fn/pub fn/' | sed '/^{$/,$d' | tr -d ' \n' | sed 's/,)/)/'; }
 objects=" $(sed -n 's/^objects="\([^"]*\)".*/\1/p' host/build.sh) "
 for source in crates/*/src/*.rt; do
     crate=${source#crates/}
     crate=${crate%%/*}
+    below=${crate%_c}
     for name in $(sed -n 's/^pub extern "C" fn \([a-z0-9_]*\).*/\1/p' "$source"); do
         [[ $objects == *" $crate "* ]] || miss "not in the archive that host/build.sh makes: $name"
         grep -q "^[a-z_0-9]* $name(" host/foldharbor.h || miss "the header has no $name"
-        grep -q "\*\*\`$crate::$name(" docs/CONTRACTS.md || miss "not in CONTRACTS.md: $name"
-        grep -q "^use .*\.$name\.Reads as" "crates/$crate/proofs/Determined.antt" || miss "not in Determined.antt of $crate: $name"
+        cmp -s <(function_of "$name" "$source") <(function_of "$name" "crates/$below/src/lib.rt") || miss "exported with other clauses than $below has: $name"
+        grep -q "^    $below::$name(" "$source" || miss "does not hand on to $below: $name"
+        grep -q "\*\*\`$below::$name(" docs/CONTRACTS.md || miss "not in CONTRACTS.md: $name"
+        grep -q "^use .*\.$name\.Reads as" "crates/$below/proofs/Determined.antt" || miss "not in Determined.antt of $below: $name"
     done
 done
 for page in README.md docs/*.md docs/changes/*.md texts/*.md tests/*.md; do
