@@ -41,6 +41,7 @@ pub fn codes_in_range(codes: Codes) -> bool
 }
 
 // T of a code.
+#[tactic(auto, unfolding(crate::specs::Target::target))]
 pub fn target(card: Card, code: u8, raise: u8) -> u16
     requires { CardRanges card × (raise ≤ most_raise) }
     ensures { (result ≡ target card code raise) × (result ≤ top_speed) }
@@ -58,6 +59,7 @@ pub fn target(card: Card, code: u8, raise: u8) -> u16
 }
 
 // Step 2: k.
+#[tactic(auto, unfolding(crate::specs::Gap::interrupted_next))]
 fn interrupted_next(codes: Codes, reading: Record) -> u8
     requires { CodesRanges codes }
     ensures { (result ≡ interrupted_next codes reading) × (result ≤ clear) }
@@ -75,6 +77,7 @@ fn interrupted_next(codes: Codes, reading: Record) -> u8
 }
 
 // Step 2: g.
+#[tactic(auto, unfolding(crate::specs::Gap::gap_next))]
 fn gap_next(codes: Codes, reading: Record) -> u8
     requires { CodesRanges codes }
     ensures { (result ≡ gap_next codes reading) × (result ≤ longest_gap) }
@@ -97,6 +100,7 @@ fn gap_next(codes: Codes, reading: Record) -> u8
     codes.gap
 }
 
+#[tactic(auto, unfolding(crate::specs::Plus::raise_by_code))]
 fn raise_by_code(codes: Codes, reading: Record) -> u8
     requires { CodesRanges codes }
     ensures { (result ≡ raise_by_code codes reading) × (result ≤ most_raise) }
@@ -108,6 +112,7 @@ fn raise_by_code(codes: Codes, reading: Record) -> u8
 }
 
 // Step 3.
+#[tactic(auto, unfolding(crate::specs::Plus::step_3_plus))]
 fn step_3_plus(codes: Codes, reading: Record, keys: Keys) -> u8
     requires { CodesRanges codes }
     ensures { (result ≡ step_3_plus codes reading keys) × (result ≤ most_raise) }
@@ -123,6 +128,7 @@ fn step_3_plus(codes: Codes, reading: Record, keys: Keys) -> u8
 }
 
 // Steps 2 and 3: the codes that the next tick starts from.
+#[tactic(auto, using(crate::proofs::Keeps::codes_next_ranges), unfolding(crate::specs::Plus::codes_next))]
 pub fn codes_next(codes: Codes, reading: Record, keys: Keys) -> Codes
     requires { CodesRanges codes × RecordRanges reading }
     ensures { (result ≡ codes_next codes reading keys) × CodesRanges result }

@@ -5,7 +5,7 @@ use Rattle.record.specs.declared.Keys.{Keys}
 use Rattle.record.specs.Modes.{pre_or_vyl}
 use Rattle.motion.specs.declared.DirectionStep.{DirectionStep}
 
--- the wrong_way_lem distance that triggers: a tick at v moves v/360 m, so d counts 1/360 m, and this is 10 m
+-- the wrong-way distance that triggers: a tick at v moves v/360 m, so d counts 1/360 m, and this is 10 m
 abbrev pub most_wrongway : ℕ
 most_wrongway = 3600
 

@@ -38,6 +38,7 @@ fn agrees(reading: Record, keys: Keys) -> bool
 }
 
 // Step 9, NZ3.
+#[tactic(auto, unfolding(crate::specs::Direction::wrongway_now, crate::specs::Direction::wrongway_triggers))]
 pub fn step_9_direction(mode: u8, reading: Record, keys: Keys, wrongway: u16) -> DirectionStep
     requires { RecordRanges reading × (wrongway ≤ most_wrongway) }
     ensures { (result ≡ step_9_direction mode reading keys wrongway) × (result.wrongway ≤ most_wrongway) }
@@ -62,6 +63,7 @@ pub fn step_9_direction(mode: u8, reading: Record, keys: Keys, wrongway: u16) ->
 }
 
 // Step 9, NZ5. A wait is longer than ZS20, so a count of 0 neither triggers nor sounds.
+#[tactic(auto, using(card::proofs::Ranges::wait_between), unfolding(crate::specs::Standing::counted, crate::specs::Standing::standing_now, crate::specs::Standing::standing_triggers, crate::specs::Standing::standing_sounds))]
 pub fn step_9_standing(
     card: Card,
     mode: u8,

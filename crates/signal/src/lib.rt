@@ -108,7 +108,7 @@ pub fn five_squares(w: u16) -> u32
     5 * ((w as u32) * (w as u32))
 }
 
-// What 5·w² is held to for the curve's value at E: max(5·T², 5·V0² − typeof.r.E).
+// What 5·w² is held to for the curve's value at E: max(5·T², 5·V0² − r·E).
 pub fn curve_bound(card: Card, curve: Curve, t: u16, driven: u32) -> u32
     requires { CardRanges card × CurveRanges curve × (t ≤ top_speed) × (driven ≤ farthest_ahead) }
     ensures { (result ≡ curve_bound card curve t driven) × (result ≤ five_squares top_speed) }
