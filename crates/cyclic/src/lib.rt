@@ -54,6 +54,7 @@ fn eased(reading: Record, keys: Keys) -> bool
     (reading.v == 0) | (keys.brake & (reading.v < 150))
 }
 
+#[tactic(auto, unfolding(crate::specs::Cyclic::asks_increased))]
 fn asks_increased(mode: u8, signal: Signal, reading: Record, keys: Keys) -> bool
     ensures { result ≡ asks_increased mode signal reading keys }
 {
@@ -77,6 +78,7 @@ fn asks_increased(mode: u8, signal: Signal, reading: Record, keys: Keys) -> bool
 }
 
 // Step 7: which vigilance is asked.
+#[tactic(auto, unfolding(crate::specs::Cyclic::asks_ordinary, crate::specs::Cyclic::cyclic_kind))]
 pub fn cyclic_kind(mode: u8, signal: Signal, reading: Record, keys: Keys) -> u8
     ensures { (result ≡ cyclic_kind mode signal reading keys) × (result ≤ increased) }
 {
@@ -90,6 +92,7 @@ pub fn cyclic_kind(mode: u8, signal: Signal, reading: Record, keys: Keys) -> u8
     0
 }
 
+#[tactic(auto, unfolding(crate::specs::Cyclic::cycle_length))]
 fn cycle_length(card: Card, kind: u8) -> u16
     requires { CardRanges card }
     ensures { (result ≡ cycle_length card kind) × ((increased_cycle ≤ result) × (result ≤ most_cycle)) }
@@ -101,6 +104,7 @@ fn cycle_length(card: Card, kind: u8) -> u16
 }
 
 // Step 7: the count, its lapse and its prompt. A cycle is longer than its prompt, so a count of 0 shows none.
+#[tactic(auto, unfolding(crate::specs::Cyclic::cyclic_lapses, crate::specs::Cyclic::cyclic_ticks, crate::specs::Cyclic::cyclic_prompts))]
 pub fn step_7_cyclic(card: Card, kind: u8, old: Cyclic, keys: Keys) -> CyclicStep
     requires { CardRanges card × CyclicRanges old × (kind ≤ increased) }
     ensures { (result ≡ step_7_cyclic card kind old keys) × CyclicRanges result.cyclic }
