@@ -70,6 +70,7 @@ const FARTHEST: u32 = 6250000;
 // MAN never goes below this speed.
 const LEAST_MAN: u16 = 1200;
 
+#[tactic(auto, unfolding(crate::specs::Ranges::signal_in_range))]
 pub fn signal_in_range(signal: Signal) -> bool
     ensures { result ≡ signal_in_range signal }
 {
@@ -109,6 +110,7 @@ pub fn five_squares(w: u16) -> u32
 }
 
 // What 5·w² is held to for the curve's value at E: max(5·T², 5·V0² − r·E).
+#[tactic(auto, using(crate::proofs::Value::bound_most, crate::proofs::Value::spent_most, crate::proofs::Value::squares_grow), unfolding(crate::specs::Value::curve_bound))]
 pub fn curve_bound(card: Card, curve: Curve, t: u16, driven: u32) -> u32
     requires { CardRanges card × CurveRanges curve × (t ≤ top_speed) × (driven ≤ farthest_ahead) }
     ensures { (result ≡ curve_bound card curve t driven) × (result ≤ five_squares top_speed) }
@@ -123,6 +125,7 @@ pub fn curve_bound(card: Card, curve: Curve, t: u16, driven: u32) -> u32
 }
 
 // The curve's value at E.
+#[tactic(auto, using(crate::proofs::Value::speed_by_squares, crate::proofs::Value::root_largest))]
 fn curve_value(card: Card, curve: Curve, t: u16, driven: u32) -> u16
     requires { CardRanges card × CurveRanges curve × (t ≤ top_speed) × (driven ≤ farthest_ahead) }
     ensures { Largest (curve_bound card curve t driven) result }
@@ -132,6 +135,7 @@ fn curve_value(card: Card, curve: Curve, t: u16, driven: u32) -> u16
 }
 
 // Whether the curve's value at E equals T: the next speed above T is too high.
+#[tactic(auto, using(crate::proofs::Value::over_by_squares))]
 fn curve_over(card: Card, curve: Curve, t: u16, driven: u32) -> bool
     requires { CardRanges card × CurveRanges curve × (t ≤ top_speed) × (driven ≤ farthest_ahead) }
     ensures { result ≡ eqb (curve_value card curve t driven) t }
@@ -140,6 +144,7 @@ fn curve_over(card: Card, curve: Curve, t: u16, driven: u32) -> bool
     bound < five_squares(t + 1)
 }
 
+#[tactic(auto, unfolding(crate::specs::Speed::signal_speed))]
 fn signal_speed(card: Card, curve: Curve, man: u16, t: u16) -> u16
     requires { CardRanges card × CurveRanges curve × (man ≤ top_speed) × (t ≤ top_speed) }
     ensures { (result ≡ signal_speed card curve man t) × (result ≤ top_speed) }
@@ -153,6 +158,7 @@ fn signal_speed(card: Card, curve: Curve, man: u16, t: u16) -> u16
     t
 }
 
+#[tactic(auto, unfolding(crate::specs::NewCode::gap_man))]
 fn gap_man(card: Card, signal: Signal, reading: Record) -> bool
     requires { CardRanges card }
     ensures { result ≡ gap_man card signal reading }
@@ -166,6 +172,7 @@ fn gap_man(card: Card, signal: Signal, reading: Record) -> bool
 }
 
 // Step 2: what the code does to MAN and the curve.
+#[tactic(auto, unfolding(crate::specs::NewCode::man_by_code, crate::specs::NewCode::curve_by_code, crate::specs::NewCode::curve_begins))]
 fn step_2_new_code(card: Card, signal: Signal, reading: Record) -> NewCode
     requires { CardRanges card × SignalRanges signal × RecordRanges reading }
     ensures { (result ≡ step_2_new_code card signal reading) × NewCodeRanges result }
@@ -223,6 +230,7 @@ fn step_2_new_code(card: Card, signal: Signal, reading: Record) -> NewCode
 }
 
 // Step 4.
+#[tactic(auto, unfolding(crate::specs::Man::step_4_man))]
 fn step_4_man(was: u16, now: u16, unchanged: bool, t: u16, v: u16) -> u16
     requires { (now ≤ top_speed) × (v ≤ top_speed) }
     ensures { (result ≡ step_4_man was now unchanged t v) × (result ≤ top_speed) }
@@ -237,6 +245,7 @@ fn step_4_man(was: u16, now: u16, unchanged: bool, t: u16, v: u16) -> u16
 }
 
 // Step 5: E with this tick's v; the first tick of a curve adds nothing.
+#[tactic(auto, unfolding(crate::specs::Curve::driven_now))]
 fn driven_now(curve: Curve, begins: bool, v: u16) -> u32
     requires { CurveRanges curve × (v ≤ top_speed) }
     ensures { (result ≡ driven_now curve begins v) × (result ≤ farthest + top_speed) }
@@ -248,6 +257,7 @@ fn driven_now(curve: Curve, begins: bool, v: u16) -> u32
 }
 
 // Step 5, with M as step 4 leaves it.
+#[tactic(auto, using(crate::proofs::Value::unspent), unfolding(crate::specs::Curve::curve_holds, crate::specs::Curve::man_starts, crate::specs::Curve::curve_now, crate::specs::Curve::man_now))]
 fn step_5_curve(
     card: Card,
     curve: Curve,
@@ -295,6 +305,7 @@ fn step_5_curve(
 }
 
 // Steps 2 to 6.
+#[tactic(auto, using(crate::proofs::Keeps::steps_2_to_6_ranges), unfolding(crate::specs::Steps::steps_2_to6))]
 pub fn steps_2_to_6(card: Card, signal: Signal, reading: Record, keys: Keys) -> SignalStep
     requires { CardRanges card × SignalRanges signal × RecordRanges reading }
     ensures { (result ≡ steps_2_to6 card signal reading keys) × SignalStepRanges result }
