@@ -44,6 +44,7 @@ pub fn prompt_in_range(prompt: Prompt) -> bool
     (prompt.ticks <= MOST_PROMPT) & (prompt.kind <= 1)
 }
 
+#[tactic(auto, unfolding(crate::specs::OneTime::lead))]
 fn lead(card: Card) -> u32
     ensures { (result ≡ lead card) × (result ≤ 150) }
 {
@@ -54,6 +55,7 @@ fn lead(card: Card) -> u32
 }
 
 // Compared by squares, so that no root is needed.
+#[tactic(auto, using(crate::proofs::Squares::exceeds_by_squares, crate::proofs::Squares::slow_never))]
 fn exceeds(card: Card, curve: Curve, t: u16, v: u16, driven: u32) -> bool
     requires { CardRanges card × CurveRanges curve × (t ≤ top_speed) × (v ≤ top_speed) × (driven ≤ farthest_ahead) }
     ensures { result ≡ exceeds card curve t v driven }
@@ -66,6 +68,7 @@ fn exceeds(card: Card, curve: Curve, t: u16, v: u16, driven: u32) -> bool
 }
 
 // Step 8, with a curve: whether the prompt ahead of the curve is due.
+#[tactic(auto, unfolding(crate::specs::OneTime::due_ahead))]
 fn due_ahead(card: Card, curve: Curve, t: u16, v: u16) -> bool
     requires { CardRanges card × CurveRanges curve × (t ≤ top_speed) × (v ≤ top_speed) }
     ensures { result ≡ due_ahead card curve t v }
@@ -78,6 +81,7 @@ fn due_ahead(card: Card, curve: Curve, t: u16, v: u16) -> bool
 }
 
 // Step 8, with a curve: whether the prompt at the curve's start is due.
+#[tactic(auto, unfolding(crate::specs::OneTime::due_at_start))]
 fn due_at_start(card: Card, curve: Curve, begins: bool, t: u16, v: u16) -> bool
     requires { CardRanges card × CurveRanges curve × (t ≤ top_speed) × (v ≤ top_speed) }
     ensures { result ≡ due_at_start card curve t v begins }
@@ -91,6 +95,7 @@ fn due_at_start(card: Card, curve: Curve, begins: bool, t: u16, v: u16) -> bool
 }
 
 // Step 8.
+#[tactic(auto, unfolding(crate::specs::OneTime::prompt_lapses, crate::specs::OneTime::prompt_stays, crate::specs::OneTime::asks_ahead, crate::specs::OneTime::asks_at_start, crate::specs::OneTime::prompt_ticks_next, crate::specs::OneTime::prompt_kind_next, crate::specs::OneTime::prompted_next))]
 pub fn step_8_one_time(
     card: Card,
     curve: Curve,
