@@ -63,7 +63,6 @@ pub fn step_9_direction(mode: u8, reading: Record, keys: Keys, wrongway: u16) ->
 }
 
 // Step 9, NZ5. A wait is longer than ZS20, so a count of 0 neither triggers nor sounds.
-#[tactic(auto, using(card::proofs::Ranges::wait_between), unfolding(crate::specs::Standing::counted, crate::specs::Standing::standing_now, crate::specs::Standing::standing_triggers, crate::specs::Standing::standing_sounds))]
 pub fn step_9_standing(
     card: Card,
     mode: u8,

@@ -95,7 +95,6 @@ fn due_at_start(card: Card, curve: Curve, begins: bool, t: u16, v: u16) -> bool
 }
 
 // Step 8.
-#[tactic(auto, unfolding(crate::specs::OneTime::prompt_lapses, crate::specs::OneTime::prompt_stays, crate::specs::OneTime::asks_ahead, crate::specs::OneTime::asks_at_start, crate::specs::OneTime::prompt_ticks_next, crate::specs::OneTime::prompt_kind_next, crate::specs::OneTime::prompted_next))]
 pub fn step_8_one_time(
     card: Card,
     curve: Curve,

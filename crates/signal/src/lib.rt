@@ -110,7 +110,7 @@ pub fn five_squares(w: u16) -> u32
 }
 
 // What 5·w² is held to for the curve's value at E: max(5·T², 5·V0² − r·E).
-#[tactic(auto, using(crate::proofs::Value::bound_most, crate::proofs::Value::spent_most, crate::proofs::Value::squares_grow), unfolding(crate::specs::Value::curve_bound))]
+#[tactic(auto, using(crate::proofs::Value::bound_most, crate::proofs::Value::spent_most), unfolding(crate::specs::Value::curve_bound))]
 pub fn curve_bound(card: Card, curve: Curve, t: u16, driven: u32) -> u32
     requires { CardRanges card × CurveRanges curve × (t ≤ top_speed) × (driven ≤ farthest_ahead) }
     ensures { (result ≡ curve_bound card curve t driven) × (result ≤ five_squares top_speed) }
@@ -257,7 +257,7 @@ fn driven_now(curve: Curve, begins: bool, v: u16) -> u32
 }
 
 // Step 5, with M as step 4 leaves it.
-#[tactic(auto, using(crate::proofs::Value::unspent), unfolding(crate::specs::Curve::curve_holds, crate::specs::Curve::man_starts, crate::specs::Curve::curve_now, crate::specs::Curve::man_now))]
+#[tactic(auto, unfolding(crate::specs::Curve::curve_holds, crate::specs::Curve::man_starts, crate::specs::Curve::curve_now, crate::specs::Curve::man_now))]
 fn step_5_curve(
     card: Card,
     curve: Curve,
