@@ -30,6 +30,6 @@ log=$PWD/target/log/$name crate=$name began=$SECONDS
     esac
 done
 [ ! -f "$made" ] || exit 0
-grep -E ': error|^rt: |not proved' "$log" | tail -20 >&2
+grep -E ': error|^rt: |not proved' "$log" | grep -vE '^rt: (chose|[a-z0-9_]+: begins) ' | tail -20 >&2
 echo "\`rt $verb\` in crates/$name failed: mend what the lines above name and call this again; target/log/$name has all that was said" >&2
 exit 1
