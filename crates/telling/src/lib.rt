@@ -1,5 +1,5 @@
-// The drives of an exercise told on standard output, as an instructor would paste them under a trainee's drive.
-// What tells is told whether all before it was written, and answers whether all is written now.
+// The drives of an exercise told on a writer, as an instructor would paste them under a trainee's drive.
+// What tells stops at the first write that fails and answers its error.
 #![tactic(auto)]
 
 ghost use Rattle.std.specs.Prelude.{◌≡◌, true, ◌+◌, ◌≤◌, ◌<◌};
@@ -15,8 +15,13 @@ use desk::Desk;
 use file::Run;
 use record::{RECORD_WIDTH, Record};
 use state::State;
+use std::io;
+use std::io::Write;
 use why::Reason;
 use wording::Moment;
+
+// Longer than any drive needs.
+const JOURNAL_MOST: usize = 65536;
 
 // A drive so far.
 #[derive(Clone, Copy)]
@@ -25,47 +30,48 @@ struct Drive {
     state: State,
     // no cause has begun to be held
     quiet: bool,
-    // all of it is written
-    written: bool,
+    // all of it, or the error of the write that failed
+    written: io::Result<()>,
 }
 
 // What a tick does to a cause.
-fn tell_cause<'a>(
-    written: bool,
+fn tell_cause<'a, W: Write>(
+    out: &mut W,
     first: &'a [u8],
     second: &'a [u8],
     moment: Moment,
     cause: u8,
     was: bool,
     is: bool,
-) -> bool {
+) -> io::Result<()> {
     if was == is {
-        return written;
+        return Ok(());
     }
-    wording::print_change(written, first, second, moment, cause, is)
+    wording::print_change(out, first, second, moment, cause, is)
 }
 
 // What a tick does to the causes, by those before it and after it.
-fn tell_causes<'a>(
-    written: bool,
+fn tell_causes<'a, W: Write>(
+    out: &mut W,
     first: &'a [u8],
     second: &'a [u8],
     moment: Moment,
     before: u8,
     after: u8,
-) -> bool {
+) -> io::Result<()> {
     let was = causes::held_in(before);
     let is = causes::held_in(after);
-    let done = tell_cause(written, first, second, moment, 0, was.nz1, is.nz1);
-    let done = tell_cause(done, first, second, moment, 1, was.nz2, is.nz2);
-    let done = tell_cause(done, first, second, moment, 2, was.nz3, is.nz3);
-    let done = tell_cause(done, first, second, moment, 3, was.nz4, is.nz4);
-    tell_cause(done, first, second, moment, 4, was.nz5, is.nz5)
+    tell_cause(out, first, second, moment, 0, was.nz1, is.nz1)?;
+    tell_cause(out, first, second, moment, 1, was.nz2, is.nz2)?;
+    tell_cause(out, first, second, moment, 2, was.nz3, is.nz3)?;
+    tell_cause(out, first, second, moment, 3, was.nz4, is.nz4)?;
+    tell_cause(out, first, second, moment, 4, was.nz5, is.nz5)
 }
 
-// Drives a tick, writes its record and tells what it does.
-fn tell_tick<'a>(
+// Drives a tick, writes its record and tells what it does, where all before it is written.
+fn tell_tick<'a, W: Write>(
     drive: Drive,
+    out: &mut W,
     first: &'a [u8],
     second: &'a [u8],
     card: Card,
@@ -87,24 +93,22 @@ fn tell_tick<'a>(
         code: reading.code,
         mode: after.mode,
     };
+    let written = match drive.written {
+        Ok(()) => tell_causes(out, first, second, moment, before.causes, after.causes),
+        Err(error) => Err(error),
+    };
     Drive {
         ticks: ticks,
         state: after,
         quiet: drive.quiet & (after.causes == before.causes),
-        written: tell_causes(
-            drive.written,
-            first,
-            second,
-            moment,
-            before.causes,
-            after.causes,
-        ),
+        written: written,
     }
 }
 
 // Drives a run of a record.
-fn tell_run<'a>(
+fn tell_run<'a, W: Write>(
     begun: Drive,
+    out: &mut W,
     first: &'a [u8],
     second: &'a [u8],
     card: Card,
@@ -118,15 +122,15 @@ fn tell_run<'a>(
     let mut drive = begun;
     let mut left = run.ticks;
     while left > 0 {
-        drive = tell_tick(drive, first, second, card, reading, journal);
+        drive = tell_tick(drive, out, first, second, card, reading, journal);
         left -= 1;
     }
     drive
 }
 
 // Drives the runs of a file that was read, from a fresh state.
-fn tell_runs<'a>(
-    written: bool,
+fn tell_runs<'a, W: Write>(
+    out: &mut W,
     first: &'a [u8],
     second: &'a [u8],
     file: &[u8],
@@ -144,77 +148,69 @@ fn tell_runs<'a>(
         ticks: 0,
         state: state,
         quiet: true,
-        written: written,
+        written: Ok(()),
     };
-    let mut j = 0;
-    while j < runs {
-        drive = tell_run(
-            drive,
-            first,
-            second,
-            card,
-            file::run_in(file, from, j),
-            journal,
-        );
-        j += 1;
+    for j in 0..runs {
+        let run = file::run_in(file, from, j);
+        drive = tell_run(drive, out, first, second, card, run, journal);
     }
     drive
 }
 
 // Why a cause is held; nothing where it is not.
-fn tell_reason<'a>(
-    written: bool,
+fn tell_reason<'a, W: Write>(
+    out: &mut W,
     first: &'a [u8],
     second: &'a [u8],
     cause: u8,
     reason: Reason,
-) -> bool {
+) -> io::Result<()> {
     if reason.tick == 0 {
-        return written;
+        return Ok(());
     }
     let reading = reason.reading;
-    wording::print_reason(written, first, second, cause, reason.tick, reading)
+    wording::print_reason(out, first, second, cause, reason.tick, reading)
 }
 
 // Why the valve is open after a drive; nothing where it is closed, which is the one refusal of a desk that was just driven.
-fn tell_why<'a>(
-    written: bool,
+fn tell_why<'a, W: Write>(
+    out: &mut W,
     first: &'a [u8],
     second: &'a [u8],
     desk: Desk,
     journal: &[u8],
-) -> bool {
+) -> io::Result<()> {
     let reasons = why::why(desk, journal);
     if reasons.refusal != 0 {
-        return written;
+        return Ok(());
     }
-    let done = wording::print_open(written, desk.n);
-    let done = tell_reason(done, first, second, 0, reasons.nz1);
-    let done = tell_reason(done, first, second, 1, reasons.nz2);
-    let done = tell_reason(done, first, second, 2, reasons.nz3);
-    let done = tell_reason(done, first, second, 3, reasons.nz4);
-    tell_reason(done, first, second, 4, reasons.nz5)
+    wording::print_open(out, desk.n)?;
+    tell_reason(out, first, second, 0, reasons.nz1)?;
+    tell_reason(out, first, second, 1, reasons.nz2)?;
+    tell_reason(out, first, second, 2, reasons.nz3)?;
+    tell_reason(out, first, second, 3, reasons.nz4)?;
+    tell_reason(out, first, second, 4, reasons.nz5)
 }
 
 // The drive of a card, under the card's number, and why the valve is open at its end.
-fn tell_card<'a>(
-    written: bool,
+fn tell_card<'a, W: Write>(
+    out: &mut W,
     first: &'a [u8],
     second: &'a [u8],
     file: &[u8],
     number: u16,
     card: Card,
-) -> bool
+) -> io::Result<()>
     requires card_ranges { CardRanges card }
     requires file_value { header_good file.now ≡ true }
     requires file_value_2 { runs_refusal file.now (run_count file.now) ≡ 0 }
 {
-    let done = wording::print_card(written, number);
-    // longer than any drive needs
-    let mut journal = io::large_buffer();
-    let drive = tell_runs(done, first, second, file, card, &mut journal);
+    wording::print_card(out, number)?;
+    let mut journal = [0u8; JOURNAL_MOST];
+    let drive = tell_runs(out, first, second, file, card, &mut journal);
+    drive.written?;
     if drive.quiet {
-        return wording::print_quiet(drive.written);
+        return wording::print_quiet(out);
     }
     let state = drive.state;
     let desk = Desk {
@@ -222,31 +218,38 @@ fn tell_card<'a>(
         n: drive.ticks,
         state: state,
     };
-    tell_why(drive.written, first, second, desk, &journal)
+    tell_why(out, first, second, desk, &journal)
 }
 
 // The cards of a file that was read, each in turn.
-fn tell_cards<'a>(first: &'a [u8], second: &'a [u8], file: &[u8]) -> bool
+fn tell_cards<'a, W: Write>(
+    out: &mut W,
+    first: &'a [u8],
+    second: &'a [u8],
+    file: &[u8],
+) -> io::Result<()>
     requires file_value { header_good file.now ≡ true }
     requires file_value_2 { cards_in_range file.now (card_count file.now) ≡ true }
     requires file_value_3 { runs_refusal file.now (run_count file.now) ≡ 0 }
 {
     let cards = file::card_count(file);
-    let mut done = true;
-    let mut i: u16 = 0;
-    while i < cards {
+    for i in 0..cards {
         let card = file::card_in(file, i as usize);
-        i += 1;
-        done = tell_card(done, first, second, file, i, card);
+        tell_card(out, first, second, file, i + 1, card)?;
     }
-    done
+    Ok(())
 }
 
 // Tells the drive of each card of an exercise file, or its refusal.
-pub fn tell<'a>(first: &'a [u8], second: &'a [u8], file: &[u8]) -> bool {
+pub fn tell<'a, W: Write>(
+    out: &mut W,
+    first: &'a [u8],
+    second: &'a [u8],
+    file: &[u8],
+) -> io::Result<()> {
     let counts = file::read(file);
     if counts.refusal != 0 {
-        return wording::print_refusal(first, second, counts.refusal);
+        return wording::print_refusal(out, first, second, counts.refusal);
     }
-    tell_cards(first, second, file)
+    tell_cards(out, first, second, file)
 }

@@ -1,11 +1,12 @@
-// What people are told of a drive, line by line on standard output: texts are those of two lent tables, the words between them stand here.
-// What prints is told whether all before it was written, prints only then, and answers whether all is written now. A cause goes by its bit, NZ1 is 0.
+// What people are told of a drive, line by line on a writer: texts are those of two lent tables, the words between them stand here.
+// What prints stops at the first write that fails and answers its error. A cause goes by its bit, NZ1 is 0.
 #![tactic(auto)]
 
 ghost use Rattle.std.specs.Prelude.{◌≡◌, ◌+◌, ◌*◌, ◌≤◌, ◌<◌};
 
-use libc::STDOUT_FILENO;
 use record::Record;
+use std::io;
+use std::io::Write;
 
 // Where each kind of message begins in a table of texts.
 const CAUSES: u32 = 0;
@@ -50,213 +51,178 @@ fn time_of(tick: u16) -> Time
     }
 }
 
-fn print(written: bool, text: &[u8]) -> bool {
-    if !written {
-        return false;
-    }
-    io::write_all(STDOUT_FILENO, text)
-}
-
-fn print_number(written: bool, number: u16) -> bool {
-    if !written {
-        return false;
-    }
-    io::print_decimal(STDOUT_FILENO, number as u64)
-}
-
-fn print_message<'a>(
-    written: bool,
-    first: &'a [u8],
-    second: &'a [u8],
-    language: u32,
-    number: u32,
-) -> bool {
-    if !written {
-        return false;
-    }
-    listing::print_one(first, second, language, number)
-}
-
 // A tick and its time, with something between them.
-fn print_tick(written: bool, tick: u16, between: &[u8]) -> bool {
+fn print_tick<W: Write>(out: &mut W, tick: u16, between: &str) -> io::Result<()> {
     let time = time_of(tick);
-    let done = print(written, b"tick ");
-    let done = print_number(done, tick);
-    let done = print(done, between);
-    let done = print_number(done, time.minutes);
-    let done = print(done, b":");
-    let done = print_number(done, time.seconds / 10);
-    let done = print_number(done, time.seconds % 10);
-    let done = print(done, b".");
-    print_number(done, time.tenths)
+    let minutes = time.minutes;
+    let seconds = time.seconds;
+    let tenths = time.tenths;
+    write!(out, "tick {tick}{between}{minutes}:{seconds:02}.{tenths}")
 }
 
-fn print_speed(written: bool, v: u16) -> bool {
-    let done = print_number(written, v / 10);
-    let done = print(done, b".");
-    let done = print_number(done, v % 10);
-    print(done, b" km/h")
+fn print_speed<W: Write>(out: &mut W, v: u16) -> io::Result<()> {
+    write!(out, "{}.{} km/h", v / 10, v % 10)
 }
 
-fn print_name(written: bool, cause: u8) -> bool {
-    let done = print(written, b"NZ");
-    print_number(done, cause as u16 + 1)
+fn print_name<W: Write>(out: &mut W, cause: u8) -> io::Result<()> {
+    write!(out, "NZ{}", cause as u16 + 1)
 }
 
 // A cause's text in a language, with the names of a signal code and of a mode.
-fn print_text<'a>(
-    written: bool,
+fn print_text<'a, W: Write>(
+    out: &mut W,
     first: &'a [u8],
     second: &'a [u8],
     language: u32,
     cause: u8,
     code: u8,
     mode: u8,
-) -> bool {
-    let done = print(written, b"  ");
-    let done = print_message(done, first, second, language, CAUSES + (cause as u32));
-    let done = print(done, b" (");
-    let done = print_message(done, first, second, language, CODES + (code as u32));
-    let done = print(done, b", ");
-    let done = print_message(done, first, second, language, MODES + (mode as u32));
-    print(done, b")\n")
+) -> io::Result<()> {
+    out.write_all(b"  ")?;
+    listing::print_one(out, first, second, language, CAUSES + (cause as u32))?;
+    out.write_all(b" (")?;
+    listing::print_one(out, first, second, language, CODES + (code as u32))?;
+    out.write_all(b", ")?;
+    listing::print_one(out, first, second, language, MODES + (mode as u32))?;
+    out.write_all(b")\n")
 }
 
-fn print_texts<'a>(
-    written: bool,
+fn print_texts<'a, W: Write>(
+    out: &mut W,
     first: &'a [u8],
     second: &'a [u8],
     cause: u8,
     code: u8,
     mode: u8,
-) -> bool {
-    let done = print_text(written, first, second, 1, cause, code, mode);
-    print_text(done, first, second, 2, cause, code, mode)
+) -> io::Result<()> {
+    print_text(out, first, second, 1, cause, code, mode)?;
+    print_text(out, first, second, 2, cause, code, mode)
 }
 
 // Of the lever and of motion.
-fn print_direction(written: bool, direction: u8) -> bool {
+fn print_direction<W: Write>(out: &mut W, direction: u8) -> io::Result<()> {
     match direction {
-        1 => print(written, b"forward"),
-        2 => print(written, b"reverse"),
-        _ => print(written, b"none"),
+        1 => out.write_all(b"forward"),
+        2 => out.write_all(b"reverse"),
+        _ => out.write_all(b"none"),
     }
 }
 
-fn print_band(written: bool, band: u8) -> bool {
+fn print_band<W: Write>(out: &mut W, band: u8) -> io::Result<()> {
     match band {
-        0 => print(written, b"below 3.5 bar"),
-        1 => print(written, b"3.5 to below 4.5 bar"),
-        _ => print(written, b"from 4.5 bar"),
+        0 => out.write_all(b"below 3.5 bar"),
+        1 => out.write_all(b"3.5 to below 4.5 bar"),
+        _ => out.write_all(b"from 4.5 bar"),
     }
 }
 
 // A flag that is on, behind a comma where one of lower weight is on.
-fn print_flag(written: bool, flags: u8, weight: u8, name: &[u8]) -> bool
+fn print_flag<W: Write>(out: &mut W, flags: u8, weight: u8, name: &str) -> io::Result<()>
     requires { 1 ≤ weight }
 {
     if flags / weight % 2 == 0 {
-        return written;
+        return Ok(());
     }
-    if flags % weight == 0 {
-        return print(written, name);
+    if flags % weight != 0 {
+        out.write_all(b", ")?;
     }
-    print(print(written, b", "), name)
+    out.write_all(name.as_bytes())
 }
 
-fn print_flags(written: bool, flags: u8) -> bool {
+fn print_flags<W: Write>(out: &mut W, flags: u8) -> io::Result<()> {
     if flags == 0 {
-        return print(written, b"nothing");
+        return out.write_all(b"nothing");
     }
-    let done = print_flag(written, flags, record::VIGILANCE, b"vigilance");
-    let done = print_flag(done, flags, record::PLUS, b"PLUS");
-    let done = print_flag(done, flags, record::MAN, b"MAN");
-    let done = print_flag(done, flags, record::BRAKE, b"direct brake");
-    let done = print_flag(done, flags, record::REMOTE, b"remote stop");
-    let done = print_flag(done, flags, record::LOSS, b"adhesion loss");
-    print_flag(done, flags, record::CAB, b"cab")
+    print_flag(out, flags, record::VIGILANCE, "vigilance")?;
+    print_flag(out, flags, record::PLUS, "PLUS")?;
+    print_flag(out, flags, record::MAN, "MAN")?;
+    print_flag(out, flags, record::BRAKE, "direct brake")?;
+    print_flag(out, flags, record::REMOTE, "remote stop")?;
+    print_flag(out, flags, record::LOSS, "adhesion loss")?;
+    print_flag(out, flags, record::CAB, "cab")
 }
 
 // What a record has beside its code and its mode.
-fn print_record(written: bool, reading: Record) -> bool {
-    let done = print(written, b"  ");
-    let done = print_speed(done, reading.v);
-    let done = print(done, b", mode asked for as above, lever ");
-    let done = print_direction(done, reading.lever);
-    let done = print(done, b", motion ");
-    let done = print_direction(done, reading.sense);
-    let done = print(done, b", main line ");
-    let done = print_band(done, reading.band);
-    let done = print(done, b", on: ");
-    let done = print_flags(done, reading.flags);
-    print(done, b"\n")
+fn print_record<W: Write>(out: &mut W, reading: Record) -> io::Result<()> {
+    out.write_all(b"  ")?;
+    print_speed(out, reading.v)?;
+    out.write_all(b", mode asked for as above, lever ")?;
+    print_direction(out, reading.lever)?;
+    out.write_all(b", motion ")?;
+    print_direction(out, reading.sense)?;
+    out.write_all(b", main line ")?;
+    print_band(out, reading.band)?;
+    out.write_all(b", on: ")?;
+    print_flags(out, reading.flags)?;
+    out.write_all(b"\n")
 }
 
-pub fn print_card(written: bool, number: u16) -> bool {
-    let done = print(written, b"card ");
-    let done = print_number(done, number);
-    print(done, b"\n")
+pub fn print_card<W: Write>(out: &mut W, number: u16) -> io::Result<()> {
+    writeln!(out, "card {number}")
 }
 
 // A cause begins to be held, or is let go.
-pub fn print_change<'a>(
-    written: bool,
+pub fn print_change<'a, W: Write>(
+    out: &mut W,
     first: &'a [u8],
     second: &'a [u8],
     moment: Moment,
     cause: u8,
     held: bool,
-) -> bool {
-    let done = print_tick(written, moment.tick, b"  ");
-    let done = print(done, b"  ");
-    let done = print_speed(done, moment.v);
-    let done = print(done, b", permitted ");
-    let done = print_speed(done, moment.permitted);
-    let done = print(done, b": ");
-    let done = print_name(done, cause);
+) -> io::Result<()> {
+    print_tick(out, moment.tick, "  ")?;
+    out.write_all(b"  ")?;
+    print_speed(out, moment.v)?;
+    out.write_all(b", permitted ")?;
+    print_speed(out, moment.permitted)?;
+    out.write_all(b": ")?;
+    print_name(out, cause)?;
     if !held {
-        return print(done, b" let go\n");
+        return out.write_all(b" let go\n");
     }
-    let done = print(done, b" held\n");
-    print_texts(done, first, second, cause, moment.code, moment.mode)
+    out.write_all(b" held\n")?;
+    print_texts(out, first, second, cause, moment.code, moment.mode)
 }
 
 // No cause has begun to be held.
-pub fn print_quiet(written: bool) -> bool {
-    print(written, b"no intervention\n")
+pub fn print_quiet<W: Write>(out: &mut W) -> io::Result<()> {
+    out.write_all(b"no intervention\n")
 }
 
-pub fn print_open(written: bool, tick: u16) -> bool {
-    let done = print(written, b"after ");
-    let done = print_tick(done, tick, b", ");
-    print(done, b", the valve is open\n")
+pub fn print_open<W: Write>(out: &mut W, tick: u16) -> io::Result<()> {
+    out.write_all(b"after ")?;
+    print_tick(out, tick, ", ")?;
+    out.write_all(b", the valve is open\n")
 }
 
 // A cause is held since a tick, which had this record.
-pub fn print_reason<'a>(
-    written: bool,
+pub fn print_reason<'a, W: Write>(
+    out: &mut W,
     first: &'a [u8],
     second: &'a [u8],
     cause: u8,
     tick: u16,
     reading: Record,
-) -> bool {
-    let done = print_name(written, cause);
-    let done = print(done, b" held since ");
-    let done = print_tick(done, tick, b", ");
-    let done = print(done, b"\n");
-    let done = print_texts(done, first, second, cause, reading.code, reading.mode);
-    print_record(done, reading)
+) -> io::Result<()> {
+    print_name(out, cause)?;
+    out.write_all(b" held since ")?;
+    print_tick(out, tick, ", ")?;
+    out.write_all(b"\n")?;
+    print_texts(out, first, second, cause, reading.code, reading.mode)?;
+    print_record(out, reading)
 }
 
 // A refusal and its texts.
-pub fn print_refusal<'a>(first: &'a [u8], second: &'a [u8], refusal: u8) -> bool {
+pub fn print_refusal<'a, W: Write>(
+    out: &mut W,
+    first: &'a [u8],
+    second: &'a [u8],
+    refusal: u8,
+) -> io::Result<()> {
     let number = REFUSALS + (refusal as u32);
-    let done = print(true, b"refused ");
-    let done = print_number(done, refusal as u16);
-    let done = print(done, b"\n  ");
-    let done = print_message(done, first, second, 1, number);
-    let done = print(done, b"\n  ");
-    let done = print_message(done, first, second, 2, number);
-    print(done, b"\n")
+    write!(out, "refused {refusal}\n  ")?;
+    listing::print_one(out, first, second, 1, number)?;
+    out.write_all(b"\n  ")?;
+    listing::print_one(out, first, second, 2, number)?;
+    out.write_all(b"\n")
 }
