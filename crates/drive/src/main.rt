@@ -4,15 +4,17 @@
 // That the input can't be read, or the output not be written, is told on standard error and ends the program.
 #![tactic(auto)]
 
-ghost use Rattle.std.specs.Prelude.{◌≡◌, ◌≤◌, length};
+ghost use Rattle.std.specs.Prelude.{◌≡◌, ◌≤◌, length, IfOk};
 ghost use Rattle.script.specs.Call.{call_most};
 
 use desk::Desk;
 use layout::byte_at;
-use libc::{STDERR_FILENO, STDIN_FILENO, STDOUT_FILENO};
 use line::{LINE_MOST, REASONS_LINE_MOST};
 use record::RECORD_WIDTH;
 use script::{CALL_MOST, HEADER_WIDTH, Reply};
+use std::io;
+use std::io::{Read, Write};
+use std::rt::Env;
 
 const JOURNAL_MOST: usize = 65535;
 
@@ -25,17 +27,13 @@ enum Next {
     SameDesk,
     // nothing: the script has ended
     End,
-    // nothing: a read or a write failed, which has been told
-    Failed,
 }
 
-// What the calls of a script come to.
+// Why the program ends before the script does.
 #[derive(Clone, Copy)]
-enum Played {
-    // so many ticks in the journal
-    Ticks(u16),
-    // a read or a write failed, which has been told
-    Failed,
+enum Failure {
+    Reading(io::Error),
+    Writing(io::Error),
 }
 
 // What the arguments ask for.
@@ -46,131 +44,110 @@ enum Asked {
     Nonsense,
 }
 
-fn read_failed() -> Next {
-    os::fail(b"drive: standard input");
-    Next::Failed
-}
-
-fn write_failed() -> Next {
-    os::fail(b"drive: standard output");
-    Next::Failed
-}
-
 // Prints a reply, in one write.
-fn print(reply: Reply) -> Next {
+fn print<W: Write>(out: &mut W, reply: Reply) -> io::Result<Next> {
     match reply {
         Reply::Line(outcome) => {
             let mut line = [0u8; LINE_MOST];
             let n = line::line_of(outcome, &mut line);
-            if !io::write_all(STDOUT_FILENO, &line[..n]) {
-                return write_failed();
-            }
+            out.write_all(&line[..n])?;
             let desk = outcome.desk;
-            Next::Call(desk)
+            Ok(Next::Call(desk))
         }
         Reply::Why(reasons) => {
             let mut line = [0u8; REASONS_LINE_MOST];
             let n = line::line_of_reasons(reasons, &mut line);
-            if !io::write_all(STDOUT_FILENO, &line[..n]) {
-                return write_failed();
-            }
-            Next::SameDesk
+            out.write_all(&line[..n])?;
+            Ok(Next::SameDesk)
         }
         Reply::BadScript => {
-            if !io::write_all(STDOUT_FILENO, b"bad script\n") {
-                return write_failed();
-            }
-            Next::End
+            out.write_all(b"bad script\n")?;
+            Ok(Next::End)
         }
     }
 }
 
-// Reads a call and no byte more; answers how many bytes there were, 0 at the end of the input, or -1 where a read fails.
-fn read_call(call: &mut [u8]) -> isize
+// Reads a call and no byte more; answers how many bytes there were, 0 at the end of the input.
+fn read_call<R: Read>(input: &mut R, call: &mut [u8]) -> io::Result<usize>
     requires { call_most ≤ length call.old }
+    ensures { IfOk result (λ n. n ≤ length call.new) }
 {
-    let first = input::fill(STDIN_FILENO, &mut call[..1]);
-    if first <= 0 {
-        return first;
+    if input::fill(input, &mut call[..1])? == 0 {
+        return Ok(0);
     }
     let width = script::call_width(call[0]);
     if width <= 1 {
-        return 1;
+        return Ok(1);
     }
-    let rest = &mut call[1..width];
-    let got = input::fill(STDIN_FILENO, rest);
-    if got < 0 {
-        return -1;
-    }
-    (1 + io::count(got, rest)) as isize
+    let rest = input::fill(input, &mut call[1..width])?;
+    Ok(1 + rest)
 }
 
 // Reads a call, plays it and prints the reply.
-fn play_next(desk: Desk, journal: &mut [u8]) -> Next {
+fn play_next<R: Read, W: Write>(
+    input: &mut R,
+    out: &mut W,
+    desk: Desk,
+    journal: &mut [u8],
+) -> Result<Next, Failure> {
     let mut call = [0u8; CALL_MOST];
-    let got = read_call(&mut call);
-    if got < 0 {
-        return read_failed();
+    let n = read_call(input, &mut call).map_err(Failure::Reading)?;
+    if n == 0 {
+        return Ok(Next::End);
     }
-    if got == 0 {
-        return Next::End;
-    }
-    let n = io::count(got, &call);
-    print(script::play(desk, &call[..n], journal))
+    print(out, script::play(desk, &call[..n], journal)).map_err(Failure::Writing)
 }
 
-// A proved loop has to end, and nothing says that the input does: the turns are counted down, from a number that no drive uses up.
-fn play_all(first: Desk, journal: &mut [u8]) -> Played {
+// Answers how many ticks the journal has when the script has ended. A proved loop has to end, and nothing says that the input does: the turns are
+// counted, up to a number that no drive uses up.
+fn play_all<R: Read, W: Write>(
+    input: &mut R,
+    out: &mut W,
+    first: Desk,
+    journal: &mut [u8],
+) -> Result<u16, Failure> {
     let mut desk = first;
-    let mut turns = u64::MAX;
-    while turns > 0 {
-        match play_next(desk, journal) {
+    for _ in 0..u64::MAX {
+        match play_next(input, out, desk, journal)? {
             Next::Call(next) => desk = next,
             Next::SameDesk => {}
-            Next::End => return Played::Ticks(desk.n),
-            Next::Failed => return Played::Failed,
+            Next::End => return Ok(desk.n),
         }
-        turns -= 1;
     }
-    Played::Ticks(desk.n)
+    Ok(desk.n)
 }
 
-// Prints a record's bytes, and answers whether all was written.
-fn print_record(journal: &[u8], at: usize) -> bool {
-    let mut k = 0;
-    while k < RECORD_WIDTH {
-        if !io::print_hex(STDOUT_FILENO, byte_at(journal, at, k) as u64, 2) {
-            return false;
-        }
-        k += 1;
-        let end = if k < RECORD_WIDTH { b' ' } else { b'\n' };
-        if !io::write_all(STDOUT_FILENO, &[end]) {
-            return false;
-        }
+// Prints a record's bytes.
+fn print_record<W: Write>(out: &mut W, journal: &[u8], at: usize) -> io::Result<()> {
+    for k in 0..RECORD_WIDTH {
+        let byte = byte_at(journal, at, k);
+        let end = if k + 1 < RECORD_WIDTH { ' ' } else { '\n' };
+        write!(out, "{byte:02x}{end}")?;
     }
-    true
+    Ok(())
 }
 
 // Prints the first so many records.
-fn print_journal(journal: &[u8], ticks: u16) {
-    let mut i: u16 = 0;
-    while i < ticks {
-        if !print_record(journal, RECORD_WIDTH * (i as usize)) {
-            write_failed();
-            return;
-        }
-        i += 1;
+fn print_journal<W: Write>(out: &mut W, journal: &[u8], ticks: u16) -> io::Result<()> {
+    for i in 0..ticks {
+        print_record(out, journal, RECORD_WIDTH * (i as usize))?;
     }
+    Ok(())
 }
 
 // Plays the calls behind the header; prints the journal behind them where that is asked for.
-fn finish(desk: Desk, journal: &mut [u8], journal_too: bool) {
-    let Played::Ticks(ticks) = play_all(desk, journal) else {
-        return;
-    };
+fn finish<R: Read, W: Write>(
+    input: &mut R,
+    out: &mut W,
+    desk: Desk,
+    journal: &mut [u8],
+    journal_too: bool,
+) -> Result<(), Failure> {
+    let ticks = play_all(input, out, desk, journal)?;
     if journal_too {
-        print_journal(journal, ticks);
+        print_journal(out, journal, ticks).map_err(Failure::Writing)?;
     }
+    Ok(())
 }
 
 // A journal as long as a u16 can ask for.
@@ -181,42 +158,48 @@ fn zeros() -> [u8; JOURNAL_MOST]
 }
 
 // Plays the script, with the journal behind it or without.
-fn drive(journal_too: bool) {
+fn drive<R: Read, W: Write>(input: &mut R, out: &mut W, journal_too: bool) -> Result<(), Failure> {
     let mut header = [0u8; HEADER_WIDTH];
-    let got = input::fill(STDIN_FILENO, &mut header);
-    if got < 0 {
-        read_failed();
-        return;
-    }
-    let n = io::count(got, &header);
-    let Next::Call(desk) = print(script::open(&header[..n])) else {
-        return;
+    let n = input::fill(input, &mut header).map_err(Failure::Reading)?;
+    let Next::Call(desk) = print(out, script::open(&header[..n])).map_err(Failure::Writing)? else {
+        return Ok(());
     };
     let length = script::journal_length(&header) as usize;
     let mut journal = zeros();
-    finish(desk, &mut journal[..length], journal_too);
+    finish(input, out, desk, &mut journal[..length], journal_too)
 }
 
-fn what_is_asked() -> Asked {
-    let words = os::arg_count();
+fn what_is_asked(env: &impl Env) -> Asked {
+    let words = input::words(env, 3);
     if words <= 1 {
         return Asked::Lines;
     }
-    // a longer word counts as an empty one
     let mut word = [0u8; 7];
-    let n = os::arg(1, &mut word);
-    if (words == 2) & check::same(&word[..n], b"journal") {
-        return Asked::LinesAndJournal;
+    // a longer word is an error
+    if let Ok(n) = env.arg(1, &mut word) {
+        if (words == 2) & (&word[..n] == b"journal".as_slice()) {
+            return Asked::LinesAndJournal;
+        }
     }
     Asked::Nonsense
 }
 
-fn main() {
-    match what_is_asked() {
-        Asked::Lines => drive(false),
-        Asked::LinesAndJournal => drive(true),
+fn main(rt: HostRuntime) {
+    let journal_too = match what_is_asked(&rt) {
+        Asked::Lines => false,
+        Asked::LinesAndJournal => true,
         Asked::Nonsense => {
-            io::write_all(STDERR_FILENO, b"usage: drive [journal] <SCRIPT\n");
+            let _ = rt.stderr().write_all(b"usage: drive [journal] <SCRIPT\n");
+            return;
+        }
+    };
+    match drive(&mut rt.stdin(), &mut rt.stdout(), journal_too) {
+        Ok(()) => {}
+        Err(Failure::Reading(error)) => {
+            input::fail(&mut rt.stderr(), b"drive: standard input", error)
+        }
+        Err(Failure::Writing(error)) => {
+            input::fail(&mut rt.stderr(), b"drive: standard output", error)
         }
     }
 }

@@ -3,36 +3,37 @@
 // A refused file prints its refusal. That a file or the input can't be read, or the output not be written, is told on standard error and ends the program.
 #![tactic(auto)]
 
-use libc::{STDERR_FILENO, STDIN_FILENO};
+use std::io::Write;
 use texts::MOST_BYTES;
 
-fn main() {
-    if os::arg_count() != 3 {
-        io::write_all(STDERR_FILENO, b"usage: explain FIRST SECOND <EXERCISE\n");
+// Longer than any good file, so that a cut input is never taken for one.
+const FILE_MOST: usize = 65536;
+
+fn main(rt: HostRuntime) {
+    let mut told = rt.stderr();
+    if input::words(&rt, 4) != 3 {
+        let _ = told.write_all(b"usage: explain FIRST SECOND <EXERCISE\n");
         return;
     }
     // one byte longer than a table can be
     let mut first = [0u8; MOST_BYTES + 1];
     let mut second = [0u8; MOST_BYTES + 1];
-    let got = tables::load(b"explain", 1, &mut first);
-    if got < 0 {
+    let Some(n) = tables::load(&rt, &mut told, b"explain", 1, &mut first) else {
         return;
-    }
-    let other = tables::load(b"explain", 2, &mut second);
-    if other < 0 {
+    };
+    let Some(m) = tables::load(&rt, &mut told, b"explain", 2, &mut second) else {
         return;
-    }
-    // longer than any good file, so that a cut input is never taken for one
-    let mut file = io::large_buffer();
-    let read = input::fill(STDIN_FILENO, &mut file);
-    if read < 0 {
-        os::fail(b"explain: standard input");
-        return;
-    }
-    let n = io::count(got, &first);
-    let m = io::count(other, &second);
-    let length = io::count(read, &file);
-    if !telling::tell(&first[..n], &second[..m], &file[..length]) {
-        os::fail(b"explain: standard output");
+    };
+    let mut file = [0u8; FILE_MOST];
+    let length = match input::fill(&mut rt.stdin(), &mut file) {
+        Ok(length) => length,
+        Err(error) => {
+            input::fail(&mut told, b"explain: standard input", error);
+            return;
+        }
+    };
+    let mut out = rt.stdout();
+    if let Err(error) = telling::tell(&mut out, &first[..n], &second[..m], &file[..length]) {
+        input::fail(&mut told, b"explain: standard output", error);
     }
 }
