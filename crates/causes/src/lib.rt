@@ -30,6 +30,7 @@ const NZ5: u8 = 16;
 
 pub const ALL_HELD: u8 = NZ1 + NZ2 + NZ3 + NZ4 + NZ5;
 
+#[tactic(auto, unfolding(crate::specs::Held::held_in))]
 pub fn held_in(mask: u8) -> Causes
     ensures { result ≡ held_in mask }
 {
@@ -49,6 +50,7 @@ pub fn holds_nz5(mask: u8) -> bool
     held_in(mask).nz5
 }
 
+#[tactic(auto, unfolding(crate::specs::Held::mask_of))]
 fn mask_of(causes: Causes) -> u8
     ensures { (result ≡ mask_of causes) × (result ≤ all_held) }
 {
@@ -60,6 +62,7 @@ fn mask_of(causes: Causes) -> u8
 }
 
 // The lowest-numbered held cause.
+#[tactic(auto, using(crate::proofs::Masks::lowest_is, crate::proofs::Masks::lowest_none))]
 pub fn lowest(mask: u8) -> u8
     requires { mask ≤ all_held }
     ensures { result ≡ lowest mask }
@@ -70,6 +73,7 @@ pub fn lowest(mask: u8) -> u8
     (u8::trailing_zeros(mask) + 1) as u8
 }
 
+#[tactic(auto, using(crate::proofs::Masks::count_is))]
 pub fn how_many(mask: u8) -> u8
     requires { mask ≤ all_held }
     ensures { result ≡ how_many mask }
@@ -78,6 +82,7 @@ pub fn how_many(mask: u8) -> u8
 }
 
 // Step 10: what a vigilance press lets go.
+#[tactic(auto, unfolding(crate::specs::Keeping::released))]
 fn released(p: u16, reading: Record, keys: Keys) -> Causes
     ensures { result ≡ released p reading keys }
 {
@@ -91,6 +96,7 @@ fn released(p: u16, reading: Record, keys: Keys) -> Causes
 }
 
 // Step 10: which causes are held then.
+#[tactic(auto, unfolding(crate::specs::Keeping::step_10_held))]
 fn step_10_held(held: Causes, triggered: Causes, free: Causes) -> Causes
     ensures { result ≡ step_10_held held triggered free }
 {
@@ -115,6 +121,7 @@ pub fn step_10_mask(mask: u8, triggered: Causes, p: u16, reading: Record, keys: 
 }
 
 // Step 10: letting NZ3 go sets d = 0.
+#[tactic(auto, unfolding(crate::specs::Keeping::step_10_wrongway, crate::specs::Keeping::released))]
 pub fn step_10_wrongway(
     wrongway: u16,
     mask: u8,
