@@ -47,6 +47,7 @@ pub fn fresh_state() -> State
     }
 }
 
+#[tactic(auto, unfolding(crate::specs::State::state_in_range))]
 pub fn state_in_range(state: State) -> bool
     ensures { result ≡ state_in_range state }
 {
@@ -61,6 +62,7 @@ pub fn state_in_range(state: State) -> bool
         & (state.causes <= causes::ALL_HELD)
 }
 
+#[tactic(auto, unfolding(crate::specs::Mode::mode_now))]
 fn mode_now(state: State, reading: Record) -> u8
     requires { StateRanges state × RecordRanges reading }
     ensures { (result ≡ mode_now state reading) × ((pos ≤ result) × (result ≤ zav)) }
@@ -72,6 +74,7 @@ fn mode_now(state: State, reading: Record) -> u8
 }
 
 // Step 1.
+#[tactic(auto, unfolding(crate::specs::Mode::step_1_mode), using(crate::proofs::Keeps::step_1_mode_ranges))]
 pub fn step_1_mode(state: State, reading: Record) -> State
     requires { StateRanges state × RecordRanges reading }
     ensures { (result ≡ step_1_mode state reading) × StateRanges result }
