@@ -71,6 +71,7 @@ pub fn no_answer() -> Answer
 }
 
 // Steps 2 to 6, in PRE alone.
+#[tactic(auto, unfolding(crate::specs::Tick::signal_in))]
 fn signal_in(card: Card, state: State, reading: Record, keys: Keys) -> SignalStep
     requires { CardRanges card × StateRanges state × RecordRanges reading × (keys ≡ keys_in card state reading) }
     ensures { (result ≡ signal_in card state reading) × SignalStepRanges result }
@@ -87,6 +88,7 @@ fn signal_in(card: Card, state: State, reading: Record, keys: Keys) -> SignalSte
     }
 }
 
+#[tactic(auto, unfolding(crate::specs::Permitted::ceiling))]
 fn ceiling(card: Card, mode: u8) -> u16
     requires { CardRanges card }
     ensures { (result ≡ ceiling card mode) × (result ≤ top_speed) }
@@ -104,6 +106,7 @@ fn ceiling(card: Card, mode: u8) -> u16
 }
 
 // Step 6: P.
+#[tactic(auto, unfolding(crate::specs::Permitted::step_6_permitted))]
 fn step_6_permitted(card: Card, mode: u8, speed: u16) -> u16
     requires { CardRanges card }
     ensures { (result ≡ step_6_permitted card mode speed) × (result ≤ top_speed) }
@@ -117,6 +120,7 @@ fn step_6_permitted(card: Card, mode: u8, speed: u16) -> u16
 }
 
 // Steps 2 to 9.
+#[tactic(auto, unfolding(crate::specs::Tick::permitted_in, crate::specs::Tick::kind_in, crate::specs::Tick::cyclic_in, crate::specs::Tick::one_time_in, crate::specs::Tick::direction_in, crate::specs::Tick::standing_in))]
 fn steps_2_to_9(card: Card, state: State, reading: Record) -> Findings
     requires { CardRanges card × StateRanges state × RecordRanges reading }
     ensures { result ≡ steps_2_to9 card state reading }
@@ -160,6 +164,7 @@ fn steps_2_to_9(card: Card, state: State, reading: Record) -> Findings
 }
 
 // Step 9: the triggers.
+#[tactic(auto, unfolding(crate::specs::Tick::triggers_in), using(crate::proofs::Keeps::permitted_in_most))]
 fn triggers_in(card: Card, state: State, reading: Record, findings: Findings) -> Causes
     requires { CardRanges card × StateRanges state × RecordRanges reading × (findings ≡ steps_2_to9 card state reading) }
     ensures { result ≡ triggers_in card state reading }
@@ -174,6 +179,7 @@ fn triggers_in(card: Card, state: State, reading: Record, findings: Findings) ->
 }
 
 // Step 10, and the state that the next tick starts from.
+#[tactic(auto, unfolding(crate::specs::Tick::releases_in, crate::specs::Tick::held_next, crate::specs::Tick::wrongway_next, crate::specs::Tick::state_next), using(crate::proofs::Keeps::state_next_ranges))]
 fn state_next(card: Card, state: State, reading: Record, findings: Findings) -> State
     requires { CardRanges card × StateRanges state × RecordRanges reading × (findings ≡ steps_2_to9 card state reading) }
     ensures { (result ≡ state_next card state reading) × StateRanges result }
@@ -212,6 +218,7 @@ fn state_next(card: Card, state: State, reading: Record, findings: Findings) -> 
     }
 }
 
+#[tactic(auto, unfolding(crate::specs::Answer::marks))]
 fn marks(signal: Signal, cyclic: CyclicStep, prompt: Prompt, standing: StandingStep) -> u8
     ensures { result ≡ marks signal cyclic prompt standing }
 {
@@ -224,6 +231,7 @@ fn marks(signal: Signal, cyclic: CyclicStep, prompt: Prompt, standing: StandingS
 }
 
 // Steps 2 to 10 and the answer, from what steps 2 to 9 found.
+#[tactic(auto, unfolding(crate::specs::Tick::state_next, crate::specs::Tick::answer_now, crate::specs::Tick::steps_2_to10))]
 fn steps_2_to_10(card: Card, state: State, reading: Record, findings: Findings) -> AfterTick
     requires { CardRanges card × StateRanges state × RecordRanges reading × (findings ≡ steps_2_to9 card state reading) }
     ensures { (result ≡ steps_2_to10 card state reading) × StateRanges result.state }
@@ -250,6 +258,7 @@ fn steps_2_to_10(card: Card, state: State, reading: Record, findings: Findings) 
 }
 
 // One tick: the new state and the answer.
+#[tactic(auto, unfolding(crate::specs::Tick::advance))]
 pub fn advance(card: Card, state: State, reading: Record) -> AfterTick
     requires { CardRanges card × StateRanges state × RecordRanges reading }
     ensures { (result ≡ advance card state reading) × StateRanges result.state }
@@ -263,6 +272,7 @@ pub fn advance(card: Card, state: State, reading: Record) -> AfterTick
 pub const ANSWER_WIDTH: usize = 8;
 
 // The answer in the 8 bytes from `at`; a place past the end holds 0.
+#[tactic(auto, unfolding(crate::specs::Answer::answer_at))]
 pub fn answer_at(bytes: &[u8], at: usize) -> Answer
     ensures { result ≡ answer_at bytes.now at }
 {
@@ -296,6 +306,7 @@ pub fn write_answer(bytes: &mut [u8], at: usize, answer: Answer)
 }
 
 // Writes the answer's 8 bytes from `at`; where they do not fit, nothing.
+#[tactic(auto, unfolding(crate::specs::Answer::put_answer))]
 pub fn put_answer(bytes: &mut [u8], at: usize, answer: Answer)
     ensures { bytes.new ≡ put_answer bytes.old at answer }
 {
