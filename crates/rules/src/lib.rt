@@ -306,7 +306,7 @@ pub fn write_answer(bytes: &mut [u8], at: usize, answer: Answer)
 }
 
 // Writes the answer's 8 bytes from `at`; where they do not fit, nothing.
-#[tactic(auto, unfolding(crate::specs::Answer::put_answer))]
+#[tactic(auto, unfolding(crate::specs::Answer::put_answer, layout::specs::Layout::put))]
 pub fn put_answer(bytes: &mut [u8], at: usize, answer: Answer)
     ensures { bytes.new ≡ put_answer bytes.old at answer }
 {
