@@ -12,6 +12,7 @@ use record::RECORD_WIDTH;
 use rules::AfterTick;
 
 // How many ticks a journal of so many bytes takes.
+#[tactic(auto, unfolding(crate::specs::Journal::capacity))]
 pub fn capacity(length: usize) -> usize
     ensures { result ≡ capacity length }
 {
@@ -41,7 +42,7 @@ pub fn all_in_range(journal: &[u8], m: usize) -> bool
 pub fn rebuilt(card: Card, journal: &[u8], m: usize) -> AfterTick
     requires card_ranges { CardRanges card }
     requires m_in_bounds { record_width * m ≤ length journal.now }
-    requires m_value { all_in_range journal.now m ≡ true }
+    requires records_in_range { all_in_range journal.now m ≡ true }
     ensures { result ≡ after card (records journal.now) m }
 {
     let state = state::fresh_state();
