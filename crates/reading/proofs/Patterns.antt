@@ -7,7 +7,7 @@ use native.Mathlib.Omega.{arith}
 use mathlib.Core.Bool.{Bool, true, false, not, cond, false≢true}
 use lib.Dec.{T, eqb, leb}
 use lib.Pow.{pow-add, pow_pos, pow_mono}
-use lib.Ieee.{Float, nan, inf, fin, binary32, of_fields, of_bits, to_bits, fits, le, is_nan, nan_bits}
+use lib.Ieee.{Float, nan, inf, fin, binary32, of_fields, of_bits, to_bits, div, fits, le, is_nan, nan_bits}
 use lib.Ieee.Bits.{of_bits-to_bits, nan_bits_is, nan_bits_above}
 use lib.Ieee.Digits.{Equals, odd_val}
 use borrow.Author.Tests.{ne_eqb, lt-ltb, le-ltb}
@@ -114,6 +114,11 @@ nan_at b h = go (of_bits binary32 b) (sym (nan_bits_is binary32 b) ∙ nan_bits_
     go nan h = refl
     go (inf s) h = absurd (false≢true h)
     go (fin s m e) h = absurd (false≢true h)
+
+-- 0 / 0, by which the code makes a NaN
+pub nan_made_at : (b : ℕ) → 2139095040 < b % 2147483648 → div binary32 (of_bits binary32 0) (of_bits binary32 0) ≡ of_bits binary32 b
+unfolding of_bits div
+nan_made_at b h = nan_at b h
 
 pub no_nan_at : (b : ℕ) → b % 2147483648 ≤ 2139095040 → T (not (nan_bits binary32 b))
 no_nan_at b h = rw (nan_bits_above binary32 b, le-ltb 2139095040 (b % 2147483648) h) tt

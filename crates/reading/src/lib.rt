@@ -17,6 +17,7 @@ const SIGN: u32 = 2147483648;
 const INFINITY: u32 = 2139095040;
 
 // The f32 of a bit pattern, a NaN's too.
+#[tactic(auto, using(crate::proofs::Patterns::nan_made_at, crate::proofs::Patterns::no_nan_at))]
 pub fn float_of_bits(bits: u32) -> f32
     ensures { result ≡ float_of_bits bits }
 {
