@@ -24,9 +24,8 @@ fn number_of(word: &[u8]) -> Said {
         return Said::Nothing;
     }
     let mut number: u64 = 0;
-    let mut i = 0;
-    while i < word.len() {
-        let byte = word[i];
+    for x in word {
+        let byte = *x;
         if byte < b'0' {
             return Said::Nothing;
         }
@@ -37,7 +36,6 @@ fn number_of(word: &[u8]) -> Said {
         if MOST_NUMBER < number {
             return Said::Nothing;
         }
-        i += 1;
     }
     Said::Number(number as u32)
 }

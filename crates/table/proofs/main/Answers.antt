@@ -1,0 +1,14 @@
+-- A table that was made lies in its buffer, by the laws of proofs/Judged.antt in `lines`.
+use Rattle.std.proofs.Common.{◌≤◌, arith, sym, length-take-le}
+use Rattle.lines.proofs.Judged.{table_short}
+use Rattle.table.proofs.main.Goals as goal
+
+pub slice_bounds-table-end : goal.slice_bounds-table-end
+slice_bounds-table-end c =
+    let short = table_short _ _ _ (sym c.in-Table.ensures.made) in
+    omega arith
+
+pub slice_bounds-write_all-end : goal.slice_bounds-write_all-end
+slice_bounds-write_all-end c =
+    let short = table_short _ _ _ (sym c.in-Table.ensures.made) in
+    sym (length-take-le _ _ (omega arith))
