@@ -65,6 +65,7 @@ pub fn runs_from(cards: u16) -> usize
     HEADER_WIDTH + CARD_WIDTH * (cards as usize)
 }
 
+#[tactic(auto, unfolding(crate::specs::File::header_good))]
 fn header_good(file: &[u8]) -> bool
     ensures { result ≡ header_good file.now }
 {
@@ -86,6 +87,7 @@ fn header_good(file: &[u8]) -> bool
 }
 
 // The card at a place, from 0.
+#[tactic(auto, unfolding(crate::specs::File::card_in))]
 pub fn card_in(file: &[u8], i: usize) -> Card
     requires { header_width + card_width * (i + 1) ≤ length file.now }
     ensures { result ≡ card_in file.now i }
@@ -107,6 +109,7 @@ fn cards_in_range(file: &[u8], cards: usize) -> bool
     true
 }
 
+#[tactic(auto, using(crate::proofs::Header::header_length), unfolding(crate::specs::Read::head_refusal))]
 pub fn head_refusal(file: &[u8]) -> u8
     ensures { result ≡ head_refusal file.now }
 {
@@ -120,6 +123,7 @@ pub fn head_refusal(file: &[u8]) -> u8
 }
 
 // The run at a place, from 0, of those that begin at `from`.
+#[tactic(auto, unfolding(crate::specs::File::run_ticks, crate::specs::File::run_record))]
 pub fn run_in(file: &[u8], from: usize, j: usize) -> Run
     requires { (from ≡ runs_from file.now) × (from + run_width * (j + 1) ≤ length file.now) }
     ensures { (result.ticks ≡ run_ticks file.now j) × (result.record ≡ run_record file.now j) }
@@ -132,12 +136,14 @@ pub fn run_in(file: &[u8], from: usize, j: usize) -> Run
 }
 
 // The ticks of the run at a place, from 0, of any file.
+#[tactic(auto, unfolding(crate::specs::File::run_ticks))]
 pub fn run_length(file: &[u8], j: u16) -> u16
     ensures { result ≡ run_ticks file.now j }
 {
     u16_at(file, runs_from(card_count(file)), RUN_WIDTH * (j as usize))
 }
 
+#[tactic(auto, unfolding(crate::specs::Runs::run_fault))]
 fn run_fault(before: usize, ticks: usize, reading: Record) -> u8
     requires { (before ≤ most_ticks) × (ticks ≤ 65535) }
     ensures { result ≡ run_fault before ticks reading }
