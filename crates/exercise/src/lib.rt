@@ -53,10 +53,10 @@ fn exercise_outcome(file: &[u8], card: u32, room: usize) -> Total
 
 // Drives the runs of a file that was read, from a fresh state, and writes the answers of their ticks.
 fn answer_all(file: &[u8], card: Card, buffer: &mut [u8])
-    requires card_ranges { CardRanges card }
-    requires file_value { header_good file.now ≡ true }
-    requires file_value_2 { runs_refusal file.now (run_count file.now) ≡ 0 }
-    requires file_in_bounds { answer_width * tick_count file.now ≤ length buffer.old }
+    requires card_in_range { CardRanges card }
+    requires good_header { header_good file.now ≡ true }
+    requires no_run_refused { runs_refusal file.now (run_count file.now) ≡ 0 }
+    requires room { answer_width * tick_count file.now ≤ length buffer.old }
     ensures { buffer.new ≡ written buffer.old 0 (answers card (drive file.now) (tick_count file.now)) }
 {
     let from = file::runs_from(file::card_count(file));
