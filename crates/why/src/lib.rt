@@ -106,6 +106,7 @@ fn start_at(tick: u16, was: bool, is: bool, start: u16) -> u16
 }
 
 // The starts after a tick, by the causes before it and after it.
+#[tactic(auto, unfolding(crate::specs::Told::starts_at))]
 fn starts_at(tick: u16, before: u8, after: u8, starts: Starts) -> Starts
     ensures { result ≡ starts_at tick before after starts }
 {
@@ -135,8 +136,8 @@ fn not_told() -> Told
 
 // The first n records, each looked at, driven and told of in turn.
 fn retold(card: Card, journal: &[u8], n: u16) -> Told
-    requires card_ranges { CardRanges card }
-    requires n_in_bounds { record_width * n ≤ length journal.now }
+    requires card_in_range { CardRanges card }
+    requires records_there { record_width * n ≤ length journal.now }
     ensures { result ≡ retold card journal.now n }
 {
     let mut state = state::fresh_state();
@@ -186,6 +187,7 @@ fn retold_refusal(desk: Desk, told: Told) -> u8
 }
 
 // Why a cause is held, by its start.
+#[tactic(auto, unfolding(crate::specs::Why::reason_of, journal::specs::Journal::records))]
 fn reason_of(journal: &[u8], held: bool, start: u16) -> Reason
     requires { held ≡ true → StartFits start (length journal.now) }
     ensures { result ≡ reason_of (records journal.now) held start }
@@ -200,6 +202,7 @@ fn reason_of(journal: &[u8], held: bool, start: u16) -> Reason
 }
 
 // Why each cause is held, by the starts.
+#[tactic(auto, unfolding(crate::specs::Told::reasons_of))]
 fn reasons_of(journal: &[u8], held: Causes, starts: Starts) -> Reasons
     requires { (cause : Cause) → among cause held ≡ true → StartFits (start_of cause starts) (length journal.now) }
     ensures { result ≡ reasons_of (records journal.now) held starts }
