@@ -1,5 +1,5 @@
 -- `cards_in_range` tests each card, by the laws of a test that stands below a number.
-use Rattle.std.proofs.Common.{sym, ap, ◌∙◌, ◌≡◌, arith}
+use Rattle.std.proofs.Common.{sym, ap, ◌∙◌, arith}
 use Rattle.numbers.proofs.All.{all_none, all_more, all_not}
 use Rattle.card.specs.Card.{card_in_range}
 use Rattle.file.proofs.cards_in_range.Goals as goal
