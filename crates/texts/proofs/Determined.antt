@@ -2,6 +2,8 @@
 -- They ask nothing of their caller. `requires` and `Post` are the contract as the check reads it off the source;
 -- `s.1.1.1.1.0` is the refusal, the fifth parameter, at exit.
 -- `at_exit` is what the parameters hold afterwards, by their types: a table that is lent to be read holds what it held.
+use Rattle.std.specs.Prelude.{ℕ, List}
+use Rattle.std.specs.Borrow.{Bor}
 use mathlib.Core.Path.{◌≡◌, refl}
 use base.Logic.{emp}
 use contract.Lifetimes.{Lfts}
@@ -37,7 +39,7 @@ text_reads κs a last = (refl, refl)
 
 -- ---- the other table has no influence: two calls whose chosen tables have the same bytes answer alike,
 -- and where the chosen table is one and the same, by the same part of it
-module _ (first second first' second' : _) (language number : _) where
+module _ (first second first' second' : Bor (List ℕ)) (language number : ℕ) where
   pub place_alone : (κs : Lfts 1) (x y : _) (s t : _) → (chosen language first second).now ≡ (chosen language first' second').now
       → placing.Post κs (first, (second, (language, (number, tt)))) x s → placing.Post κs (first', (second', (language, (number, tt)))) y t
       → x ≡ y
