@@ -28,8 +28,8 @@ const DIGIT_ZERO: u8 = 48;
 // Writes the digit of x at a weight, where there is one; answers the place after it.
 fn put_digit(out: &mut [u8], at: usize, x: u16, weight: u16) -> usize
     requires { (at < length out.old) × (0 < weight) }
-    ensures value { (result ≡ at + length (digit_at x weight)) × (result ≤ at + 1) }
-    ensures out_after { out.new ≡ written out.old at (digit_at x weight) }
+    ensures place { (result ≡ at + length (digit_at x weight)) × (result ≤ at + 1) }
+    ensures text { out.new ≡ written out.old at (digit_at x weight) }
 {
     if x < weight {
         return at;
@@ -41,8 +41,8 @@ fn put_digit(out: &mut [u8], at: usize, x: u16, weight: u16) -> usize
 // Writes x in decimal; answers the place after it.
 fn put_decimal(out: &mut [u8], at: usize, x: u16) -> usize
     requires { at + digits_most ≤ length out.old }
-    ensures value { (result ≡ at + length (decimal x)) × (result ≤ at + digits_most) }
-    ensures out_after { out.new ≡ written out.old at (decimal x) }
+    ensures place { (result ≡ at + length (decimal x)) × (result ≤ at + digits_most) }
+    ensures text { out.new ≡ written out.old at (decimal x) }
 {
     let a = put_digit(out, at, x, 10000);
     let b = put_digit(out, a, x, 1000);
@@ -55,8 +55,8 @@ fn put_decimal(out: &mut [u8], at: usize, x: u16) -> usize
 // Writes numbers in decimal, a space before each; answers the place after them.
 fn put_spaced(out: &mut [u8], from: usize, numbers: &[u16]) -> usize
     requires { from + number_most * length numbers.now ≤ length out.old }
-    ensures value { (result ≡ from + length (spaced numbers.now)) × (result ≤ from + number_most * length numbers.now) }
-    ensures out_after { out.new ≡ written out.old from (spaced numbers.now) }
+    ensures place { (result ≡ from + length (spaced numbers.now)) × (result ≤ from + number_most * length numbers.now) }
+    ensures text { out.new ≡ written out.old from (spaced numbers.now) }
 {
     let mut at = from;
     let mut i = 0;
@@ -95,8 +95,8 @@ pub fn line_of(outcome: Outcome, out: &mut [u8; LINE_MOST]) -> usize
 // Writes why a cause is held, by its number; nothing where it is not. Answers the place after it.
 fn put_reason(out: &mut [u8], at: usize, cause: u16, reason: Reason) -> usize
     requires { at + reason_most ≤ length out.old }
-    ensures value { (result ≡ at + length (spaced (reason_numbers cause reason))) × (result ≤ at + reason_most) }
-    ensures out_after { out.new ≡ written out.old at (spaced (reason_numbers cause reason)) }
+    ensures place { (result ≡ at + length (spaced (reason_numbers cause reason))) × (result ≤ at + reason_most) }
+    ensures text { out.new ≡ written out.old at (spaced (reason_numbers cause reason)) }
 {
     if reason.tick == 0 {
         return at;
