@@ -41,8 +41,8 @@ put_four fits p q r s =
     put_then fits (put_then (omega (arith, s.place)) (put_then (omega (arith, r.place, s.place)) p q) r) s
 
 -- as the contracts say it
-pub put : {l m new : List ℕ} {at end most : ℕ} → ((end ≡ at + length new) × (end ≤ most)) × (m ≡ written l at new) → Put l at new m end
-put p = record { place = p.0.0; list = p.1 }
+pub put : {l m new : List ℕ} {at end most : ℕ} → record { place : (end ≡ at + length new) × (end ≤ most); text : m ≡ written l at new } → Put l at new m end
+put p = record { place = p.place.0; list = p.text }
 
 pub spaced-append : (xs ys : List ℕ) → spaced (xs ++ ys) ≡ spaced xs ++ spaced ys
 unfolding spaced
