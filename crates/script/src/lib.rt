@@ -65,6 +65,7 @@ pub fn sample_at(bytes: &[u8], at: usize) -> Sample
     }
 }
 
+#[tactic(auto, unfolding(crate::specs::Call::journal_length))]
 pub fn journal_length(header: &[u8]) -> u16
     ensures { result ≡ journal_length header.now }
 {
@@ -82,6 +83,7 @@ pub fn open(header: &[u8]) -> Reply
 }
 
 // How many bytes a call takes, by its first; 0 where it is unknown.
+#[tactic(auto, unfolding(crate::specs::Call::call_width))]
 pub fn call_width(kind: u8) -> usize
     ensures { (result ≡ call_width kind) × (result ≤ call_most) }
 {
