@@ -19,6 +19,7 @@ use texts::Place;
 const VERSION: u32 = 20000;
 
 // How many of `width` bytes are put where there are `room`: all or none.
+#[tactic(auto, unfolding(crate::specs::Bytes::bytes_put))]
 fn bytes_put(width: usize, room: usize) -> usize
     ensures { result ≡ bytes_put width room }
 {
@@ -50,6 +51,7 @@ pub fn foldharbor_restart(desk: Desk) -> Outcome
     desk.restart()
 }
 
+#[tactic(auto, unfolding(crate::specs::Bytes::card_from))]
 pub fn foldharbor_card_at(bytes: &[u8]) -> Card
     ensures { result ≡ card_from bytes.now }
 {
@@ -68,6 +70,7 @@ pub fn foldharbor_put_card(card: Card, bytes: &mut [u8]) -> usize
     count
 }
 
+#[tactic(auto, unfolding(crate::specs::Bytes::answer_from))]
 pub fn foldharbor_answer_at(bytes: &[u8]) -> Answer
     ensures { result ≡ answer_from bytes.now }
 {
