@@ -204,6 +204,7 @@ pub fn record_at(bytes: &[u8], at: usize) -> Record
 }
 
 // Writes the record's 8 bytes from `at`; where they do not fit, nothing.
+#[tactic(auto, using(layout::proofs::Put::put_yes, layout::proofs::Put::put_no), unfolding(crate::specs::Record::put_record))]
 pub fn put_record(bytes: &mut [u8], at: usize, reading: Record)
     ensures { bytes.new ≡ put_record bytes.old at reading }
 {
