@@ -44,6 +44,7 @@ fn offset(table: &[u8], i: usize) -> u16
     u16_at(table, 2, 2 * i)
 }
 
+#[tactic(auto, unfolding(crate::specs::Table::header_good))]
 fn header_good(table: &[u8]) -> bool
     ensures { result ≡ header_good table.now }
 {
@@ -76,6 +77,7 @@ fn messages_good(table: &[u8], count: usize) -> bool
     true
 }
 
+#[tactic(auto, unfolding(crate::specs::Table::table_good))]
 fn table_good(table: &[u8]) -> bool
     ensures { result ≡ table_good table.now }
 {
@@ -85,6 +87,7 @@ fn table_good(table: &[u8]) -> bool
     messages_good(table, count(table) as usize)
 }
 
+#[tactic(auto, unfolding(crate::specs::Text::text_refusal))]
 fn text_refusal(table: &[u8], language: u32, number: u32) -> u8
     ensures { result ≡ text_refusal table.now language number }
 {
@@ -103,6 +106,7 @@ fn text_refusal(table: &[u8], language: u32, number: u32) -> u8
 }
 
 // The place of a message in the table of its language.
+#[tactic(auto, unfolding(crate::specs::Text::text_place))]
 fn place_in(table: &[u8], language: u32, number: u32) -> Place
     ensures { result ≡ text_place table.now language number }
 {

@@ -1,5 +1,5 @@
 -- The test of every message below the count.
-use Rattle.std.proofs.Common.{◌≡◌, sym, ◌∙◌, arith}
+use Rattle.std.proofs.Common.{sym, ◌∙◌, arith}
 use Rattle.numbers.proofs.All.{all_none, all_more, all_not}
 use Rattle.texts.proofs.messages_good.Goals as goal
 
