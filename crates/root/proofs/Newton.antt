@@ -40,20 +40,6 @@ pub record Above (number w : ℕ) : Type 0 where
 pub step_above : (number guess : ℕ) → number < limit → 0 < guess → guess ≤ limit → Above number (stepped number guess)
 step_above number guess p some q = record { most = stays_in_range number guess p q; below = never_below number guess some }
 
--- a w whose square is above the number is above 0, and the one below it is no lower than the root
-pub some_square : (number w : ℕ) → number < w * w → 0 < w
-some_square number w p = ⊎_elim (λ none. absurd (omega (arith, mul-le-mul none none))) (λ some. some) (le_or_lt w 0)
-
-pub one_down : (number w : ℕ) → Above number w → number < w * w → Above number (w - 1)
-one_down number w above p =
-    let some = some_square number w p in
-    let back : w - 1 + 1 ≡ w = omega arith in
-    record { most = omega (arith, above.most); below = rw back p }
-
--- a product of two u32s fits a u64
-pub product_fits : (a b : ℕ) → a ≤ 4294967295 → b ≤ 4294967295 → a * b < 2 ^ 64
-product_fits a b p q = omega (arith, mul-le-mul p q)
-
 -- ---- the power of two that is stepped from, as a u32
 pub power_small : (leading : ℕ) → (32 - leading) / 2 ≤ 16
 power_small leading = omega arith
