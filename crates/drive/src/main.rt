@@ -4,8 +4,9 @@
 // That the input can't be read, or the output not be written, is told on standard error and ends the program.
 #![tactic(auto)]
 
-ghost use Rattle.std.specs.Prelude.{◌≡◌, ◌≤◌, length, IfOk};
-ghost use Rattle.script.specs.Call.{call_most};
+ghost use Rattle.std.specs.Prelude.{◌≡◌, ◌≤◌, length, take, max, slice_index, IfOk};
+ghost use Rattle.std.specs.Io.KnownBytes.{Consumes};
+ghost use Rattle.script.specs.Call.{call_most, call_width};
 
 use desk::Desk;
 use layout::byte_at;
@@ -67,12 +68,15 @@ fn print<W: Write>(out: &mut W, reply: Reply) -> io::Result<Next> {
     }
 }
 
-// Reads a call and no byte more; answers how many bytes there were, 0 at the end of the input.
+// Reads a call and no byte more; answers how many bytes there were, 0 at the end of the input. They are the next ones of an input whose bytes are known.
 fn read_call<R: Read>(input: &mut R, call: &mut [u8]) -> io::Result<usize>
     requires { call_most ≤ length call.old }
-    ensures { IfOk result (λ n. n ≤ length call.new) }
+    ensures within { IfOk result (λ n. n ≤ length call.new) }
+    ensures bytes { IfOk result (λ n. Consumes (R.remaining input.old) (R.remaining input.new) (take n call.new)) }
+    ensures no_more { IfOk result (λ n. n ≤ max 1 (call_width (slice_index call.new 0))) }
 {
-    if input::fill(input, &mut call[..1])? == 0 {
+    let first = input::fill(input, &mut call[..1])?;
+    if first == 0 {
         return Ok(0);
     }
     let width = script::call_width(call[0]);
