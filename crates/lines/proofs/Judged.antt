@@ -8,7 +8,7 @@ use mathlib.Core.List.{List, [], ◌∷◌, flatten}
 use lib.Dec.{ltb}
 use lib.ListN.{length, get_or, drop, length-append}
 use lib.Seq.{slice}
-use borrow.Author.Tests.{ltb-false, not-false}
+use borrow.Author.Tests.{lt-ltb, le-ltb, ltb-false, not-false}
 use Rattle.utf8.specs.Utf8.{Utf8}
 use Rattle.utf8.proofs.Utf8.{utf8?}
 use Rattle.texts.specs.Table.{most_messages, most_bytes, header_width}
@@ -45,6 +45,18 @@ module _ (text : List ℕ) (at end count bytes : ℕ) (some : at < length text) 
   turn =
       let n : length (first_line (drop at text)) ≡ end - at = omega arith in
       rw (lines_at text at some end ends, n, line_slice text at end ends)
+
+module _ (text : List ℕ) (at count bytes : ℕ) (some : at < length text) where
+  -- one line too many
+  pub turn_many : most_messages < count + 1 → made_after count bytes (lines (drop at text)) ≡ Bad TooMany (count + 1)
+  turn_many over = turn text at _ count bytes some refl ∙ rw (lt-ltb _ _ over)
+
+  -- a table too long
+  pub turn_long : count + 1 ≤ most_messages → most_bytes < header_width (count + 1) + bytes + length (first_line (drop at text))
+      → made_after count bytes (lines (drop at text)) ≡ Bad TooLong (count + 1)
+  turn_long few over =
+      let n : at + length (first_line (drop at text)) - at ≡ length (first_line (drop at text)) = omega arith in
+      turn text at _ count bytes some refl ∙ rw (le-ltb _ _ few, n, lt-ltb _ _ over)
 
 pub ended : (text : List ℕ) (at count bytes : ℕ) → length text ≤ at
     → made_after count bytes (lines (drop at text)) ≡ Table count (header_width count + bytes)

@@ -7,10 +7,12 @@ use mathlib.Core.Path.{◌≡◌, refl, sym, ap, ◌∙◌}
 use mathlib.Core.Bool.{Bool, true, false, cond}
 use mathlib.Core.List.{List, [], ◌∷◌, flatten}
 use lib.Dec.{eqb}
-use lib.ListN.{length, get_or, take, drop, length-drop, drop_of_length-le}
+use lib.ListN.{length, get_or, take, drop, set, length-drop, drop_of_length-le}
 use lib.Seq.{slice, drop-cons, drop-drop}
 use borrow.Author.Tests.{eq-eqb, ne_eqb}
+use Rattle.layout.specs.Layout.{written}
 use Rattle.layout.proofs.Slices.{cut_slice}
+use Rattle.layout.proofs.Written.{store_then}
 use Rattle.lines.specs.Lines.{line_end, onto, lines, first_line}
 
 -- ---- the bytes of the lines: all but the line ends
@@ -111,3 +113,20 @@ module _ (text : List ℕ) (at : ℕ) where
 
     pub bytes_more : (byte ≡ line_end → ⊥) → bytes at ≡ byte ∷ bytes (at + 1)
     bytes_more n = bytes_here ∙ rw (ne_eqb byte line_end n)
+
+    -- as long
+    pub length_end : byte ≡ line_end → length (bytes at) ≡ length (bytes (at + 1))
+    length_end e = ap length (bytes_end e)
+
+    pub length_more : (byte ≡ line_end → ⊥) → length (bytes at) ≡ suc (length (bytes (at + 1)))
+    length_more n = ap length (bytes_more n)
+
+    -- written from a place on
+    pub written_end : (table : List ℕ) (to : ℕ) → byte ≡ line_end → written table to (bytes (at + 1)) ≡ written table to (bytes at)
+    written_end table to e = ap (written table to) (sym (bytes_end e))
+
+    pub written_more : (table : List ℕ) (to : ℕ) → (byte ≡ line_end → ⊥) → to + length (bytes at) ≤ length table
+        → written (set table to byte) (to + 1) (bytes (at + 1)) ≡ written table to (bytes at)
+    written_more table to n fits =
+        let more = length_more n in
+        store_then table to _ _ (omega arith) ∙ sym (ap (written table to) (bytes_more n))
