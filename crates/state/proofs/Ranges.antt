@@ -5,8 +5,8 @@ use mathlib.Core.Bool.{true}
 use native.Mathlib.Omega.{arith}
 use Rattle.numbers.proofs.Tests.{and_iff, leb_iff}
 use Rattle.signal.proofs.Ranges.{signal_ranges, ranges_signal}
-use Rattle.cyclic.proofs.Ranges.{cyclic_ranges, ranges_cyclic}
-use Rattle.onetime.proofs.Ranges.{prompt_ranges, ranges_prompt}
+use Rattle.cyclic.proofs.Ranges.{cyclic_ranges}
+use Rattle.onetime.proofs.Ranges.{prompt_ranges}
 use Rattle.state.specs.declared.State.{State}
 use Rattle.state.specs.State.{fresh_state, StateRanges, state_in_range}
 
@@ -16,7 +16,7 @@ state_ranges s h = let f = simp (and_iff, leb_iff) at h in search (signal_ranges
 
 pub ranges_state : (s : State) → StateRanges s → state_in_range s ≡ true
 unfolding state_in_range
-ranges_state s h = simp (and_iff, leb_iff) (search (ranges_signal, ranges_prompt, ranges_cyclic))
+ranges_state s h = simp (and_iff, leb_iff) (search ranges_signal)
 
 pub fresh_ranges : StateRanges fresh_state
 fresh_ranges = omega arith
