@@ -30,6 +30,7 @@ pub struct Outcome {
     pub refusal: u8,
 }
 
+#[tactic(auto, unfolding(crate::specs::Desk::desk_in_range))]
 fn desk_in_range(desk: Desk) -> bool
     ensures { result ≡ desk_in_range desk }
 {
@@ -124,6 +125,7 @@ fn gone_back(desk: Desk, n: u16, after: AfterTick) -> Outcome
 }
 
 // 5, 6: `length` is the journal's.
+#[tactic(auto, unfolding(crate::specs::Calls::desk_refusal))]
 pub fn desk_refusal(desk: Desk, length: usize) -> u8
     ensures { result ≡ desk_refusal desk length }
 {
@@ -137,6 +139,7 @@ pub fn desk_refusal(desk: Desk, length: usize) -> u8
 }
 
 // The number of a tick's refusal: `sample` is that of its sample, `length` the journal's.
+#[tactic(auto, unfolding(crate::specs::Calls::tick_refusal_of, refusal::specs::Refusal::first_refusal))]
 fn tick_refusal_of(desk: Desk, sample: u8, length: usize) -> u8
     ensures { result ≡ tick_refusal_of desk sample length }
 {
@@ -150,6 +153,7 @@ fn tick_refusal_of(desk: Desk, sample: u8, length: usize) -> u8
     sample
 }
 
+#[tactic(auto, unfolding(crate::specs::Calls::back_refusal, refusal::specs::Refusal::first_refusal), using(crate::proofs::Calls::desk_taken))]
 fn back_refusal(desk: Desk, k: u32, journal: &[u8]) -> u8
     ensures { result ≡ back_refusal desk k journal.now }
 {
@@ -168,6 +172,7 @@ fn back_refusal(desk: Desk, k: u32, journal: &[u8]) -> u8
 }
 
 impl Desk {
+    #[tactic(auto, unfolding(crate::specs::Calls::open_outcome))]
     pub fn open(card: Card) -> Outcome
         ensures { result ≡ open_outcome card }
     {
@@ -194,6 +199,7 @@ impl Desk {
         ticked(self, rules::advance(card, state, reading))
     }
 
+    #[tactic(auto, unfolding(crate::specs::Calls::back_outcome), using(crate::proofs::Calls::back_taken))]
     pub fn step_back(self, k: u32, journal: &[u8]) -> Outcome
         ensures { result ≡ back_outcome self k journal.now }
     {
@@ -206,6 +212,7 @@ impl Desk {
         gone_back(self, m, journal::rebuilt(card, journal, m as usize))
     }
 
+    #[tactic(auto, unfolding(crate::specs::Calls::restart_outcome))]
     pub fn restart(self) -> Outcome
         ensures { result ≡ restart_outcome self }
     {
