@@ -11,6 +11,7 @@ use onetime::Prompt;
 use signal::{Curve, Signal};
 use state::State;
 
+#[tactic(auto, using(crate::proofs::Fields::same_card))]
 fn same_card(a: Card, b: Card) -> bool
     ensures { (result ≡ true) ↔ (a ≡ b) }
 {
@@ -26,36 +27,42 @@ fn same_card(a: Card, b: Card) -> bool
         & (a.wait == b.wait)
 }
 
+#[tactic(auto, using(crate::proofs::Fields::same_codes))]
 fn same_codes(a: Codes, b: Codes) -> bool
     ensures { (result ≡ true) ↔ (a ≡ b) }
 {
     (a.last == b.last) & (a.interrupted == b.interrupted) & (a.gap == b.gap) & (a.raise == b.raise)
 }
 
+#[tactic(auto, using(crate::proofs::Fields::same_curve))]
 fn same_curve(a: Curve, b: Curve) -> bool
     ensures { (result ≡ true) ↔ (a ≡ b) }
 {
     (a.start == b.start) & (a.driven == b.driven) & (a.prompted == b.prompted)
 }
 
+#[tactic(auto, using(crate::proofs::Fields::same_signal))]
 fn same_signal(a: Signal, b: Signal) -> bool
     ensures { (result ≡ true) ↔ (a ≡ b) }
 {
     same_codes(a.codes, b.codes) & same_curve(a.curve, b.curve) & (a.man == b.man)
 }
 
+#[tactic(auto, using(crate::proofs::Fields::same_prompt))]
 fn same_prompt(a: Prompt, b: Prompt) -> bool
     ensures { (result ≡ true) ↔ (a ≡ b) }
 {
     (a.ticks == b.ticks) & (a.kind == b.kind)
 }
 
+#[tactic(auto, using(crate::proofs::Fields::same_cyclic))]
 fn same_cyclic(a: Cyclic, b: Cyclic) -> bool
     ensures { (result ≡ true) ↔ (a ≡ b) }
 {
     (a.kind == b.kind) & (a.ticks == b.ticks)
 }
 
+#[tactic(auto, using(crate::proofs::Fields::same_state))]
 fn same_state(a: State, b: State) -> bool
     ensures { (result ≡ true) ↔ (a ≡ b) }
 {
@@ -69,6 +76,7 @@ fn same_state(a: State, b: State) -> bool
         & (a.causes == b.causes)
 }
 
+#[tactic(auto, using(crate::proofs::Fields::same_desk))]
 pub fn same_desk(a: Desk, b: Desk) -> bool
     ensures { (result ≡ true) ↔ (a ≡ b) }
 {
