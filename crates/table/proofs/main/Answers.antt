@@ -1,5 +1,5 @@
 -- A table that was made lies in its buffer, by the laws of proofs/Judged.antt in `lines`.
-use Rattle.std.proofs.Common.{◌≤◌, arith, sym, length-take-le}
+use Rattle.std.proofs.Common.{arith, sym, length-take-le}
 use Rattle.lines.proofs.Judged.{table_short}
 use Rattle.table.proofs.main.Goals as goal
 
