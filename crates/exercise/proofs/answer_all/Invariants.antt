@@ -1,6 +1,6 @@
 -- `answer_all` keeps in both loops, over the runs and over a run's ticks: what is written so far is the answers of the ticks so far, and the state
 -- is that after them. The measures are the runs and the ticks that are left.
-use Rattle.std.proofs.Common.{◌-◌, ◌≤◌, ◌≡◌, ◌*◌, length}
+use Rattle.std.proofs.Common.{◌-◌, ◌≤◌, ◌≡◌, length}
 use Rattle.layout.specs.Layout.{written}
 use Rattle.state.specs.State.{StateRanges}
 use Rattle.rules.specs.After.{after}
