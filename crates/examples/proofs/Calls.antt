@@ -1,7 +1,7 @@
 -- Every row of the table of calls holds: the definitions of the five calls give what the paper and request 1 say.
 -- By one computation, in which the definitions of the calls unfold, and those of a tick and of the ranges as in `rows_hold` and `ranges_hold`.
 use mathlib.Core.Path.{◌≡◌, refl}
-use mathlib.Core.List.{[], ◌∷◌, map}
+use mathlib.Core.List.{map}
 use mathlib.Core.Bool.{decide}
 use Rattle.numbers.specs.All.{all_below}
 use Rattle.numbers.specs.Last.{last_of}

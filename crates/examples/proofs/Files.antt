@@ -1,7 +1,7 @@
 -- Every row of the table of files holds: the definitions of reader, exercise and host's number give what the paper says.
 -- By one computation, in which the definitions of a file unfold, and those of a tick, its ranges and its bytes as in `calls_hold`. Assumes nothing.
 use mathlib.Core.Path.{◌≡◌, refl}
-use mathlib.Core.List.{[], ◌∷◌, map}
+use mathlib.Core.List.{map}
 use Rattle.card.specs.Card.{card_at}
 use Rattle.file.specs.File.{header_good, card_in, run_ticks, run_record}
 use Rattle.file.specs.Runs.{ticks_to, run_fault, runs_refusal, tick_record}

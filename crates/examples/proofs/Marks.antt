@@ -1,7 +1,7 @@
 -- Every row of the table of marks holds.
 -- By one computation, in which every definition of a tick unfolds, as in `rows_hold`. Assumes nothing.
 use mathlib.Core.Path.{◌≡◌, refl}
-use mathlib.Core.List.{[], ◌∷◌, map}
+use mathlib.Core.List.{map}
 use Rattle.examples.specs.Marks.{marks}
 use Rattle.examples.proofs.Rows.{rows_hold}
 

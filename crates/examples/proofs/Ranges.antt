@@ -1,7 +1,7 @@
 -- Every row of the table of ranges holds: the tests of ranges hold at the paper's bounds and fail one beyond.
 -- By one computation, in which the tests unfold. Assumes nothing.
 use mathlib.Core.Path.{◌≡◌, refl}
-use mathlib.Core.List.{[], ◌∷◌, map}
+use mathlib.Core.List.{map}
 use lib.Ieee.{of_bits}
 use Rattle.reading.specs.Number.{quantity}
 use Rattle.reading.specs.Speed.{speed_at, speed_of, speed_refusal, speed_value}

@@ -1,7 +1,7 @@
 -- Every row of the table holds: the numbers that the definitions give are those of the paper.
 -- By one computation, in which every definition of a tick unfolds. Assumes nothing.
 use mathlib.Core.Path.{◌≡◌, refl}
-use mathlib.Core.List.{[], ◌∷◌, map}
+use mathlib.Core.List.{map}
 use lib.Ieee.{of_bits}
 use Rattle.reading.specs.Number.{quantity}
 use Rattle.reading.specs.Speed.{speed_at, speed_of, speed_value}
