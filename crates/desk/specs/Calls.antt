@@ -38,7 +38,7 @@ desk_refusal desk bytes = cond (not (desk_in_range desk)) bad_desk (cond (ltb by
 
 -- tick: 5, 6, 7, then 1, 2, 3 of the sample
 unfoldable pub tick_refusal_of : Desk → ℕ → ℕ → ℕ
-tick_refusal_of desk ofSample bytes = first_refusal (desk_refusal desk bytes) (cond (leb (capacity bytes) desk.n) full_journal ofSample)
+tick_refusal_of desk of_sample bytes = first_refusal (desk_refusal desk bytes) (cond (leb (capacity bytes) desk.n) full_journal of_sample)
 
 module _ (desk : Desk) (sample : Sample) (journal : List ℕ) where
   abbrev pub tick_refusal : ℕ

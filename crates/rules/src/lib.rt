@@ -120,7 +120,6 @@ fn step_6_permitted(card: Card, mode: u8, speed: u16) -> u16
 }
 
 // Steps 2 to 9.
-#[tactic(auto, unfolding(crate::specs::Tick::permitted_in, crate::specs::Tick::kind_in, crate::specs::Tick::cyclic_in, crate::specs::Tick::one_time_in, crate::specs::Tick::direction_in, crate::specs::Tick::standing_in))]
 fn steps_2_to_9(card: Card, state: State, reading: Record) -> Findings
     requires { CardRanges card × StateRanges state × RecordRanges reading }
     ensures { result ≡ steps_2_to9 card state reading }
@@ -179,7 +178,6 @@ fn triggers_in(card: Card, state: State, reading: Record, findings: Findings) ->
 }
 
 // Step 10, and the state that the next tick starts from.
-#[tactic(auto, unfolding(crate::specs::Tick::releases_in, crate::specs::Tick::held_next, crate::specs::Tick::wrongway_next, crate::specs::Tick::state_next), using(crate::proofs::Keeps::state_next_ranges))]
 fn state_next(card: Card, state: State, reading: Record, findings: Findings) -> State
     requires { CardRanges card × StateRanges state × RecordRanges reading × (findings ≡ steps_2_to9 card state reading) }
     ensures { (result ≡ state_next card state reading) × StateRanges result }
