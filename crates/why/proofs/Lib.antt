@@ -4,3 +4,4 @@ pub mod Calls
 pub mod Determined
 pub mod Promise
 pub mod Alike
+pub mod Order
