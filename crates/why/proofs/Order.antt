@@ -1,7 +1,7 @@
 -- The refusal that a pass over the records comes to: each test that fails gives its number, in their order.
 -- By the chain of numbers, first to last; `same_desk` decides as `same_desk?` does.
 use Rattle.std.proofs.Common.{◌≡◌, ◌↔◌, true, false, Bool, sym, ◌∙◌}
-use borrow.Author.Tests.{eq-eqb, ne_eqb}
+use borrow.Author.Tests.{ne_eqb}
 use Rattle.numbers.proofs.Tests.{decided}
 use Rattle.refusal.specs.Refusal.{other_desk, valve_closed}
 use Rattle.refusal.proofs.First.{first_some, first_zero}

@@ -162,15 +162,7 @@ fn retold(card: Card, journal: &[u8], n: u16) -> Told
 }
 
 // 9, 23, 14: of a desk by its records as they were told.
-#[tactic(
-    auto,
-    using(
-        crate::proofs::Order::first_told,
-        crate::proofs::Order::other_told,
-        crate::proofs::Order::closed_told,
-        crate::proofs::Order::taken_told
-    )
-)]
+#[tactic(auto, using(crate::proofs::Order::first_told, crate::proofs::Order::other_told, crate::proofs::Order::closed_told, crate::proofs::Order::taken_told))]
 fn retold_refusal(desk: Desk, told: Told) -> u8
     ensures { result ≡ retold_refusal desk told }
 {

@@ -76,11 +76,10 @@ loop-i-preserved c =
     c.run_in-run.ensures.0 c.run_in-run.ensures.1 in
     let i = c.loop-i.i in
     let inv = c.loop-i.invariant in
-    let more = c.loop-i-test.true in
     let fits : answer_width * i + answer_width ≤ length c.loop-i.buffer = omega (arith, run.within) in
     let put = c.write_answer.ensures in
     let records = drive c.args.file.now in
-    let next = again c.args.card records i _ _ c.advance-tick.result inv.reached (run.each i inv.since more) c.advance-tick.ensures.0 in
+    let next = again c.args.card records i _ _ c.advance-tick.result inv.reached (run.each i inv.since (omega arith)) c.advance-tick.ensures.0 in
     record {
       since = omega arith;
       most = omega arith;
