@@ -17,8 +17,12 @@ pub record Put (before : List ℕ) (at : ℕ) (new after : List ℕ) (end : ℕ)
   pub place : end ≡ at + length new
   pub list : after ≡ written before at new
 
+-- of no bytes nothing is put
+pub written_none : (l : List ℕ) (at : ℕ) → l ≡ written l at []
+written_none l at = sym (written-nil l at)
+
 pub put_none : (l : List ℕ) (at : ℕ) → Put l at [] l at
-put_none l at = record { place = sym (add-zero at); list = sym (written-nil l at) }
+put_none l at = record { place = sym (add-zero at); list = written_none l at }
 
 pub put_one : (l : List ℕ) (at x : ℕ) → at < length l → Put l at (x ∷ []) (set l at x) (at + 1)
 unfolding written

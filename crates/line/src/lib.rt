@@ -93,6 +93,7 @@ pub fn line_of(outcome: Outcome, out: &mut [u8; LINE_MOST]) -> usize
 }
 
 // Writes why a cause is held, by its number; nothing where it is not. Answers the place after it.
+#[tactic(auto, using(crate::proofs::Put::written_none), unfolding(crate::specs::Line::spaced, crate::specs::Line::reason_numbers))]
 fn put_reason(out: &mut [u8], at: usize, cause: u16, reason: Reason) -> usize
     requires { at + reason_most ≤ length out.old }
     ensures place { (result ≡ at + length (spaced (reason_numbers cause reason))) × (result ≤ at + reason_most) }

@@ -73,6 +73,7 @@ pub fn journal_length(header: &[u8]) -> u16
 }
 
 // Opens the desk of a header's card.
+#[tactic(auto, unfolding(crate::specs::Call::open_reply))]
 pub fn open(header: &[u8]) -> Reply
     ensures { result ≡ open_reply header.now }
 {
@@ -97,6 +98,7 @@ pub fn call_width(kind: u8) -> usize
 }
 
 // Plays one call on the desk.
+#[tactic(auto, unfolding(crate::specs::Call::play_reply, crate::specs::Call::play_journal))]
 pub fn play(desk: Desk, call: &[u8], journal: &mut [u8]) -> Reply
     ensures reply { result ≡ play_reply desk call.now journal.old }
     ensures journal { journal.new ≡ play_journal desk call.now journal.old }
