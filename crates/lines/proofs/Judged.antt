@@ -94,8 +94,8 @@ whole [] count bytes n m l h e =
     record { counts = omega arith; long = omega arith; most = omega arith; short = omega arith; each = λ i k. absurd (omega arith) }
 whole (line ∷ rest) count bytes n m l h e =
     let t =
-    three_no (ltb most_messages (count + 1)) (ltb most_bytes (header_width (count + 1) + bytes + length line)) (not (decide (utf8? line))) TooMany TooLong NotUtf8
-    (count + 1) (made_after (count + 1) (bytes + length line) rest) n m e in
+    three_no (ltb most_messages (count + 1)) (ltb most_bytes (header_width (count + 1) + bytes + length line)) (not (decide (utf8? line)))
+    TooMany TooLong NotUtf8 (count + 1) (made_after (count + 1) (bytes + length line) rest) n m e in
     let room = ltb-false most_messages (count + 1) t.0 in
     let fits = ltb-false most_bytes (header_width (count + 1) + bytes + length line) t.1 in
     let w = whole rest (count + 1) (bytes + length line) n m (omega arith) (omega arith) t.3 in

@@ -1,4 +1,4 @@
--- The lines of a text have no line end in them, and every list of messages without one is the lines of a text: the lines of `text_of messages` are the messages.
+-- The lines of a text have no line end in them, and every list of messages without one is the lines of a text: of `text_of messages`.
 -- By the bytes of a text and of a message, then by induction on the messages.
 use Prim.Native.Nat.{ℕ, zero, suc, ◌<◌}
 use native.Mathlib.Omega.{arith}

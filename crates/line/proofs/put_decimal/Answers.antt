@@ -1,5 +1,5 @@
 -- Four digits and the last one put one behind the other are put as one (`put_four`, `put_then`); there is room for all five.
-use Rattle.std.proofs.Common.{◌+◌, ◌%◌, length-set, rules}
+use Rattle.std.proofs.Common.{◌+◌, ◌%◌, rules}
 use Rattle.line.specs.Line.{decimal}
 use Rattle.line.proofs.Put.{put, put_one, put_then, put_four}
 use Rattle.line.proofs.put_decimal.Goals as goal

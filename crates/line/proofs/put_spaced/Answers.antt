@@ -1,7 +1,7 @@
 -- One number more by `spaced_more`.
-use Rattle.std.proofs.Common.{◌≡◌, ◌+◌, ◌*◌, ◌≤◌, arith, length, take, take_all, length-set, refl}
-use Rattle.line.specs.Line.{space, number_most, spaced}
-use Rattle.line.proofs.Put.{Put, put, put_none, put_one, put_then, spaced_more}
+use Rattle.std.proofs.Common.{arith, take_all, length-set, refl}
+use Rattle.line.specs.Line.{space, spaced}
+use Rattle.line.proofs.Put.{put, put_none, put_one, put_then, spaced_more}
 use Rattle.line.proofs.put_spaced.Goals as goal
 
 pub loop-i-init : goal.loop-i-init
