@@ -122,11 +122,11 @@ module _ (text : List ℕ) (at : ℕ) where
     length_more n = ap length (bytes_more n)
 
     -- written from a place on
-    pub written_end : (table : List ℕ) (to : ℕ) → byte ≡ line_end → written table to (bytes (at + 1)) ≡ written table to (bytes at)
-    written_end table to e = ap (written table to) (sym (bytes_end e))
+    pub put_end : (table : List ℕ) (to : ℕ) → byte ≡ line_end → written table to (bytes (at + 1)) ≡ written table to (bytes at)
+    put_end table to e = ap (written table to) (sym (bytes_end e))
 
-    pub written_more : (table : List ℕ) (to : ℕ) → (byte ≡ line_end → ⊥) → to + length (bytes at) ≤ length table
+    pub put_more : (table : List ℕ) (to : ℕ) → (byte ≡ line_end → ⊥) → to + length (bytes at) ≤ length table
         → written (set table to byte) (to + 1) (bytes (at + 1)) ≡ written table to (bytes at)
-    written_more table to n fits =
+    put_more table to n fits =
         let more = length_more n in
         store_then table to _ _ (omega arith) ∙ sym (ap (written table to) (bytes_more n))

@@ -98,7 +98,7 @@ fn put_offsets(text: &[u8], first: usize, table: &mut [u8])
 }
 
 // Writes the messages end to end: every byte but the line ends.
-#[tactic(auto, using(crate::proofs::Split::length_end, crate::proofs::Split::length_more, crate::proofs::Split::written_end, crate::proofs::Split::written_more))]
+#[tactic(auto, using(crate::proofs::Split::length_end, crate::proofs::Split::length_more, crate::proofs::Split::put_end, crate::proofs::Split::put_more))]
 fn put_messages(text: &[u8], from: usize, table: &mut [u8])
     requires { from + length (flatten (lines text.now)) ≤ length table.old }
     ensures { table.new ≡ written table.old from (flatten (lines text.now)) }
