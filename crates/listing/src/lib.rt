@@ -2,6 +2,10 @@
 // What prints stops where not all of it was written.
 #![tactic(auto)]
 
+ghost use Rattle.std.specs.Prelude.{◌++◌, [], ◌∷◌, OnOk};
+ghost use Rattle.std.specs.Io.KnownBytes.{Appends};
+ghost use Rattle.listing.specs.Printed.{refused, one};
+
 use std::io;
 use std::io::Write;
 use texts::MOST_MESSAGES;
@@ -12,7 +16,10 @@ const SPACES: [u8; MOST_SPACES] = [b' '; MOST_SPACES];
 
 const MOST_ROWS: u32 = MOST_MESSAGES as u32;
 
-fn print_refused<W: Write>(out: &mut W, refusal: u8, end: &[u8]) -> io::Result<()> {
+#[tactic(auto, unfolding(crate::specs::Printed::refused))]
+fn print_refused<W: Write>(out: &mut W, refusal: u8, end: &[u8]) -> io::Result<()>
+    ensures bytes { OnOk result (Appends (W.contents out.old) (W.contents out.new) (refused refusal end.now)) }
+{
     out.write_all(b"refused ")?;
     write!(out, "{refusal}")?;
     out.write_all(end)
@@ -28,13 +35,16 @@ fn print_spaces<W: Write>(out: &mut W, count: usize) -> io::Result<()> {
 }
 
 // Prints one message, or its refusal, and no line end.
+#[tactic(auto, unfolding(crate::specs::Printed::one))]
 pub fn print_one<'a, W: Write>(
     out: &mut W,
     first: &'a [u8],
     second: &'a [u8],
     language: u32,
     number: u32,
-) -> io::Result<()> {
+) -> io::Result<()>
+    ensures bytes { OnOk result (Appends (W.contents out.old) (W.contents out.new) (one first.now second.now language number)) }
+{
     let mut refusal = 0u8;
     let text = texts::text(first, second, language, number, &mut refusal);
     if refusal != 0 {
@@ -50,7 +60,9 @@ pub fn show_one<'a, W: Write>(
     second: &'a [u8],
     language: u32,
     number: u32,
-) -> io::Result<()> {
+) -> io::Result<()>
+    ensures bytes { OnOk result (Appends (W.contents out.old) (W.contents out.new) (one first.now second.now language number ++ (10 ∷ []))) }
+{
     print_one(out, first, second, language, number)?;
     out.write_all(b"\n")
 }
