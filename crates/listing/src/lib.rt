@@ -2,9 +2,9 @@
 // What prints stops where not all of it was written.
 #![tactic(auto)]
 
-ghost use Rattle.std.specs.Prelude.{◌++◌, [], ◌∷◌, OnOk};
+ghost use Rattle.std.specs.Prelude.{◌≡◌, ◌++◌, OnOk};
 ghost use Rattle.std.specs.Io.KnownBytes.{Appends};
-ghost use Rattle.listing.specs.Printed.{refused, one};
+ghost use Rattle.listing.specs.Printed.{line_end, spaces, refused, number_column, beside, one, widest, row, all};
 
 use std::io;
 use std::io::Write;
@@ -25,7 +25,9 @@ fn print_refused<W: Write>(out: &mut W, refusal: u8, end: &[u8]) -> io::Result<(
     out.write_all(end)
 }
 
-fn print_spaces<W: Write>(out: &mut W, count: usize) -> io::Result<()> {
+fn print_spaces<W: Write>(out: &mut W, count: usize) -> io::Result<()>
+    ensures bytes { OnOk result (Appends (W.contents out.old) (W.contents out.new) (spaces count)) }
+{
     let mut left = count;
     while left > MOST_SPACES {
         out.write_all(&SPACES)?;
@@ -61,14 +63,17 @@ pub fn show_one<'a, W: Write>(
     language: u32,
     number: u32,
 ) -> io::Result<()>
-    ensures bytes { OnOk result (Appends (W.contents out.old) (W.contents out.new) (one first.now second.now language number ++ (10 ∷ []))) }
+    ensures bytes { OnOk result (Appends (W.contents out.old) (W.contents out.new) (one first.now second.now language number ++ line_end)) }
 {
     print_one(out, first, second, language, number)?;
     out.write_all(b"\n")
 }
 
 // How many characters the longest text of the first table has.
-fn widest<'a>(first: &'a [u8], second: &'a [u8]) -> usize {
+#[tactic(auto, unfolding(crate::specs::Printed::widest))]
+fn widest<'a>(first: &'a [u8], second: &'a [u8]) -> usize
+    ensures { result ≡ widest first.now second.now 64 }
+{
     let mut most = 0;
     for number in 0..MOST_ROWS {
         let mut refusal = 0u8;
@@ -82,7 +87,10 @@ fn widest<'a>(first: &'a [u8], second: &'a [u8]) -> usize {
 }
 
 // Prints a message's number in two columns, and two spaces.
-fn print_number<W: Write>(out: &mut W, number: u32) -> io::Result<()> {
+#[tactic(auto, unfolding(crate::specs::Printed::number_column))]
+fn print_number<W: Write>(out: &mut W, number: u32) -> io::Result<()>
+    ensures bytes { OnOk result (Appends (W.contents out.old) (W.contents out.new) (number_column number)) }
+{
     if number < 10 {
         print_spaces(out, 1)?;
     }
@@ -91,7 +99,10 @@ fn print_number<W: Write>(out: &mut W, number: u32) -> io::Result<()> {
 }
 
 // Prints a text behind the one on its left, which stands in so wide a column.
-fn print_beside<W: Write>(out: &mut W, left: &[u8], width: usize, right: &[u8]) -> io::Result<()> {
+#[tactic(auto, unfolding(crate::specs::Printed::beside))]
+fn print_beside<W: Write>(out: &mut W, left: &[u8], width: usize, right: &[u8]) -> io::Result<()>
+    ensures bytes { OnOk result (Appends (W.contents out.old) (W.contents out.new) (beside left.now width right.now)) }
+{
     let used = utf8::characters(left);
     if used < width {
         print_spaces(out, width - used)?;
@@ -101,13 +112,16 @@ fn print_beside<W: Write>(out: &mut W, left: &[u8], width: usize, right: &[u8]) 
 }
 
 // Prints a message of both tables, the first's in so wide a column; nothing where neither table has it.
+#[tactic(auto, unfolding(crate::specs::Printed::row, crate::specs::Printed::shown))]
 fn show_row<'a, W: Write>(
     out: &mut W,
     first: &'a [u8],
     second: &'a [u8],
     number: u32,
     width: usize,
-) -> io::Result<()> {
+) -> io::Result<()>
+    ensures bytes { OnOk result (Appends (W.contents out.old) (W.contents out.new) (row first.now second.now width number)) }
+{
     let mut left_refused = 0u8;
     let left = texts::text(first, second, 1, number, &mut left_refused);
     let mut right_refused = 0u8;
@@ -124,7 +138,10 @@ fn show_row<'a, W: Write>(
 }
 
 // Prints every message of both tables, or the refusal of one that is bad.
-pub fn show_all<'a, W: Write>(out: &mut W, first: &'a [u8], second: &'a [u8]) -> io::Result<()> {
+#[tactic(auto, unfolding(crate::specs::Printed::all, crate::specs::Printed::all_refusal, crate::specs::Printed::rows))]
+pub fn show_all<'a, W: Write>(out: &mut W, first: &'a [u8], second: &'a [u8]) -> io::Result<()>
+    ensures bytes { OnOk result (Appends (W.contents out.old) (W.contents out.new) (all first.now second.now)) }
+{
     // a good table has a message 0
     let mut refusal = 0u8;
     texts::text(first, second, 1, 0, &mut refusal);
