@@ -4,7 +4,7 @@
 // That the input can't be read, or the output not be written, is told on standard error and ends the program.
 #![tactic(auto)]
 
-ghost use Rattle.std.specs.Prelude.{◌≡◌, ◌≤◌, length, take, max, slice_index, IfOk};
+ghost use Rattle.std.specs.Prelude.{◌≡◌, ◌<◌, ◌≤◌, length, take, max, slice_index, IfOk};
 ghost use Rattle.std.specs.Io.KnownBytes.{Consumes};
 ghost use Rattle.script.specs.Call.{call_most, call_width};
 
@@ -18,6 +18,9 @@ use std::io::{Read, Write};
 use std::rt::Env;
 
 const JOURNAL_MOST: usize = 65535;
+
+// The bytes of a record's line: two digits of each byte, and what stands behind them.
+const RECORD_LINE: usize = 3 * RECORD_WIDTH;
 
 // What comes after a reply.
 #[derive(Clone, Copy)]
@@ -121,14 +124,22 @@ fn play_all<R: Read, W: Write>(
     Ok(desk.n)
 }
 
-// Prints a record's bytes.
+fn hex_digit(x: u8) -> u8
+    requires { x < 16 }
+{
+    if x < 10 { b'0' + x } else { b'a' + (x - 10) }
+}
+
+// Prints a record's bytes, in one write.
 fn print_record<W: Write>(out: &mut W, journal: &[u8], at: usize) -> io::Result<()> {
+    let mut line = [b' '; RECORD_LINE];
     for k in 0..RECORD_WIDTH {
         let byte = byte_at(journal, at, k);
-        let end = if k + 1 < RECORD_WIDTH { ' ' } else { '\n' };
-        write!(out, "{byte:02x}{end}")?;
+        line[3 * k] = hex_digit(byte / 16);
+        line[3 * k + 1] = hex_digit(byte % 16);
     }
-    Ok(())
+    line[RECORD_LINE - 1] = b'\n';
+    out.write_all(&line)
 }
 
 // Prints the first so many records.
