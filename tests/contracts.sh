@@ -68,6 +68,7 @@ change desk/src/lib.rt '/pub fn step_back(/,/^    }$/{s/back_outcome self k jour
         self.restart()\
     }
 }'
+rm -r "$tree/crates/desk/proofs/Desk/step_back" || exit 1
 change foldharbor_back/src/lib.rt 's/back_outcome desk k journal\.now/restart_outcome desk/; s/{back_outcome}/{restart_outcome}/'
 
 # mode 1 in the desk of a refused opening
