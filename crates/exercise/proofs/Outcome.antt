@@ -35,9 +35,9 @@ early_is refusal a b head number e p q = e ∙ ap₂ first_refusal p q
 
 module _ (file : List ℕ) (card room : ℕ) where
   module _ (number : ℕ) (some : number ≡ 0 → ⊥) where
-    run_refused_lem : exercise_refusal file card room ≡ number → exercise_outcome file card room ≡ record { refusal = number; ticks = 0 }
+    refused_run : exercise_refusal file card room ≡ number → exercise_outcome file card room ≡ record { refusal = number; ticks = 0 }
     unfolding exercise_outcome
-    run_refused_lem e = rw (e, ne_eqb _ _ some)
+    refused_run e = rw (e, ne_eqb _ _ some)
 
   -- before the runs
   abbrev early : ℕ
@@ -45,18 +45,18 @@ module _ (file : List ℕ) (card room : ℕ) where
 
   pub run_by_early : (early ≡ 0 → ⊥) → exercise_outcome file card room ≡ record { refusal = early; ticks = 0 }
   unfolding exercise_refusal
-  run_by_early h = run_refused_lem _ h (first_of_three _ _ _ ∙ first_some _ _ h)
+  run_by_early h = refused_run _ h (first_of_three _ _ _ ∙ first_some _ _ h)
 
   module _ (h : early ≡ 0) where
     pub run_by_runs : (runs file ≡ 0 → ⊥) → exercise_outcome file card room ≡ record { refusal = runs file; ticks = 0 }
     unfolding exercise_refusal
-    run_by_runs k = run_refused_lem _ k (first_of_three _ _ _ ∙ rw h (first_zero _ ∙ first_some _ _ k))
+    run_by_runs k = refused_run _ k (first_of_three _ _ _ ∙ rw h (first_zero _ ∙ first_some _ _ k))
 
     module _ (k : runs file ≡ 0) where
       pub run_by_room : room < answer_width * tick_count file → exercise_outcome file card room ≡ record { refusal = short_buffer; ticks = 0 }
       unfolding exercise_refusal
       run_by_room l =
-          run_refused_lem short_buffer (λ z. omega arith) (first_of_three _ _ _ ∙ rw (h, first_zero, k, first_zero, lt-ltb _ _ l))
+          refused_run short_buffer (λ z. omega arith) (first_of_three _ _ _ ∙ rw (h, first_zero, k, first_zero, lt-ltb _ _ l))
 
       pub run_by_none : answer_width * tick_count file ≤ room → exercise_outcome file card room ≡ record { refusal = 0; ticks = tick_count file }
       unfolding exercise_refusal exercise_outcome
@@ -74,7 +74,7 @@ module _ (file : List ℕ) (card room : ℕ) where
 pub record RunTaken (file : List ℕ) (card room : ℕ) : Type 0 where
   pub low : 1 ≤ card
   pub high : card ≤ card_count file
-  pub header_good_lem : header_good file ≡ true
+  pub good_header : header_good file ≡ true
   pub card_good : CardRanges (card_in file (card - 1))
   pub runs_good : runs_refusal file (run_count file) ≡ 0
   pub fits : answer_width * tick_count file ≤ room
@@ -92,7 +92,7 @@ run_taken file card room e =
     record {
       low = low;
       high = high;
-      header_good_lem = head.0;
+      good_header = head.0;
       card_good = card_ranges _ (all_each (λ i. card_in_range (card_in file i)) (card - 1) (card_count file) (omega arith) head.1);
       runs_good = c.0;
       fits = ltb-false _ _ (room_left (ltb room (answer_width * tick_count file)) c.1);

@@ -27,10 +27,10 @@ abbrev pub answer_at : List ℕ → ℕ → List ℕ
 answer_at bytes j = take answer_width (drop (answer_width * j) bytes)
 
 module _ (card : Card) (H : ℕ → Record) where
-  pub answer_at_lem : (m j : ℕ) → j < m → answer_at (answers card H m) j ≡ answer_bytes (after card H (suc j)).answer
+  pub answer_at_is : (m j : ℕ) → j < m → answer_at (answers card H m) j ≡ answer_bytes (after card H (suc j)).answer
   unfolding answers
-  answer_at_lem zero j h = absurd (omega arith)
-  answer_at_lem (suc m) j h =
+  answer_at_is zero j h = absurd (omega arith)
+  answer_at_is (suc m) j h =
       let a = answers card H m in
       let b = answer_bytes (after card H (suc m)).answer in
       let l : length a ≡ answer_width * m = answers_length card H m in
@@ -40,7 +40,7 @@ module _ (card : Card) (H : ℕ → Record) where
       (λ (k : j < m).
       ap (take answer_width) (drop-append-le (answer_width * j) a b (omega arith))
       ∙ take-append-le answer_width (drop (answer_width * j) a) b (rw length-drop (omega arith))
-      ∙ answer_at_lem m j k)
+      ∙ answer_at_is m j k)
       (eq-or-lt_of_le (le_of_suc-le-suc h))
 
   pub rebuilt_answer : (d : Desk) (back : ℕ) (J : List ℕ) → back_refusal d back J ≡ 0 → d.card ≡ card
@@ -54,5 +54,5 @@ module _ (card : Card) (H : ℕ → Record) where
       → d.n - back ≡ suc j
       → ((i : ℕ) → i < suc j → records J i ≡ H i) → answer_at (answers card H m) j ≡ answer_bytes (back_outcome d back J).answer
   as_rebuilt m j h d back J taken same k held =
-      answer_at_lem m j h
+      answer_at_is m j h
       ∙ ap answer_bytes (ap (λ (n : ℕ). (after card H n).answer) (sym k) ∙ sym (rebuilt_answer d back J taken same (λ i l. held i (omega arith))))

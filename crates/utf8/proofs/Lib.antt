@@ -2,6 +2,5 @@ pub mod Encoding
 pub mod Width
 pub mod Utf8
 pub mod OneWay
-pub mod Places
 pub mod Counted
 pub mod Determined

@@ -18,7 +18,7 @@ overflow_sub-card c = (taken_by _ _ _ _ c.exercise_outcome-ran.ensures c.if-ran-
 pub card_in-chosen-requires : goal.card_in-chosen-requires
 card_in-chosen-requires c =
     let taken = taken_by _ _ _ _ c.exercise_outcome-ran.ensures c.if-ran-ne0.false in
-    let length = header_length _ taken.header_good_lem in
+    let length = header_length _ taken.good_header in
     omega (arith, taken.low, taken.high)
 
 pub answer_all-requires : goal.answer_all-requires
@@ -26,7 +26,7 @@ answer_all-requires c =
     let taken = taken_by _ _ _ _ c.exercise_outcome-ran.ensures c.if-ran-ne0.false in
     record {
       card_in_range = rw c.card_in-chosen.ensures taken.card_good;
-      good_header = taken.header_good_lem;
+      good_header = taken.good_header;
       no_run_refused = taken.runs_good;
       room = taken.fits;
     }

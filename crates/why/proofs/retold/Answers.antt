@@ -29,9 +29,9 @@ module _ (card : Card) (journal : List ℕ) where
       → next ≡ starts_at (i + 1) state.causes tick.state.causes starts → next ≡ starts_after card journal (i + 1)
   begun_again i state tick starts next p s t e = e ∙ rw (p, s, t) (sym (starts_next card journal i))
 
-  bad_record_lem : (n : ℕ) (told : Told) → all_in_range journal n ≡ false → told ≡ not_told → told ≡ retold card journal n
+  bad_told : (n : ℕ) (told : Told) → all_in_range journal n ≡ false → told ≡ not_told → told ≡ retold card journal n
   unfolding retold
-  bad_record_lem n told bad e = rw bad e
+  bad_told n told bad e = rw bad e
 
   all_told : (n : ℕ) (state : State) (starts : Starts) → all_in_range journal n ≡ true → state ≡ (after card (records journal) n).state
       → starts ≡ starts_after card journal n → record { refusal = 0; state = state; starts = starts } ≡ retold card journal n
@@ -53,7 +53,7 @@ pub returns-then-not-record_in_range : goal.returns-then-not-record_in_range
 unfolding records
 returns-then-not-record_in_range c =
     let bad = ap record_in_range (sym c.record_at-reading.ensures) ∙ sym c.record_in_range.ensures ∙ c.if-not-record_in_range.true in
-    bad_record_lem _ _ _ _ (all_not _ _ _ c.loop-i-test.true bad) c.not_told.ensures
+    bad_told _ _ _ _ (all_not _ _ _ c.loop-i-test.true bad) c.not_told.ensures
 
 pub advance-tick-requires : goal.advance-tick-requires
 unfolding records
