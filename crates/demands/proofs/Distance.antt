@@ -30,7 +30,7 @@ use Rattle.signal.specs.Ranges.{SignalRanges}
 use Rattle.signal.specs.Value.{curve_value}
 use Rattle.signal.specs.NewCode.{new_target, man_stays, old_speed}
 use Rattle.signal.specs.Curve.{curve_holds, driven_now}
-use Rattle.signal.specs.Steps.{target_now, steps_2_to6}
+use Rattle.signal.specs.Steps.{target_now, steps_2_to_6}
 use Rattle.signal.proofs.Value.{value_largest}
 use Rattle.signal.proofs.Keeps.{steps_2_to_6_ranges}
 use Rattle.signal.proofs.Distance.{value_by_start, value_falls, value_over, above_target, grows, stays_on, first_not_counted, follows}
@@ -74,10 +74,10 @@ module _ (card : Card) (state : State) (reading : Record) where
 
   module _ (card_good : CardRanges card) (good : StateRanges state) (fits : RecordRanges reading) where
     above : 0 < next.start → (advance card state reading).answer.target < curve_value card next (advance card state reading).answer.target next.driven
-    unfolding steps_2_to6
+    unfolding steps_2_to_6
     above runs =
         let signal = (cleared card state reading).signal in
-        let step = steps_2_to6 card signal reading keys in
+        let step = steps_2_to_6 card signal reading keys in
         let e = in_mode card state reading (in_pre_now runs) in
         let start : next.start ≡ step.signal.curve.start = start_after card state reading ∙ ap (λ x. x.signal.curve.start) e in
         let driven : next.driven ≡ step.signal.curve.driven = driven_after card state reading ∙ ap (λ x. x.signal.curve.driven) e in
@@ -93,7 +93,7 @@ module _ (card : Card) (state : State) (reading : Record) where
 -- ---- a tick on a desk in PRE
 module _ (card : Card) (state : State) (reading : Record) (was : state.mode ≡ pre) where
   abbrev step : SignalStep
-  step = steps_2_to6 card state.signal reading (keys card state reading)
+  step = steps_2_to_6 card state.signal reading (keys card state reading)
 
   abbrev old : Curve
   old = state.signal.curve
@@ -138,7 +138,7 @@ module _ (card : Card) (state : State) (reading : Record) (was : state.mode ≡ 
 
     -- T of the answer
     target_is : mode_now state reading ≡ pre → (advance card state reading).answer.target ≡ t
-    unfolding steps_2_to6
+    unfolding steps_2_to_6
     target_is now = target_after card state reading ∙ ap (λ x. x.target) (in_pre_lem card state reading was now)
 
     -- the curve is over at its grown E: it does not run
@@ -151,7 +151,7 @@ module _ (card : Card) (state : State) (reading : Record) (was : state.mode ≡ 
     has_ended : CardRanges card → SignalRanges state.signal → RecordRanges reading
         → 5 * (old.start * old.start - (advance card state reading).answer.target * (advance card state reading).answer.target)
         ≤ card.deceleration * (old.driven + reading.v) → 0 < (next card state reading).start → ⊥
-    unfolding steps_2_to6
+    unfolding steps_2_to_6
     has_ended card_good good fits h runs =
         let t_most = (steps_2_to_6_ranges card state.signal reading card_good good fits (keys card state reading)).target_most in
         let over = rw (target_is (in_pre_now card state reading runs)) at h in

@@ -16,7 +16,7 @@ use Rattle.signal.specs.NewCode.{gap_man, man_by_code, curve_begins, curve_by_co
 use Rattle.codes.specs.Plus.{raise_by_code, step_3_plus, codes_next}
 use Rattle.signal.specs.Man.{step_4_man}
 use Rattle.signal.specs.Curve.{driven_now, curve_holds, man_starts, curve_now, man_now}
-use Rattle.signal.specs.Steps.{steps_2_to6}
+use Rattle.signal.specs.Steps.{steps_2_to_6}
 use Rattle.cyclic.specs.Cyclic.{asks_increased, asks_ordinary, cyclic_kind, cycle_length, cyclic_lapses, cyclic_ticks, cyclic_prompts}
 use Rattle.onetime.specs.OneTime.{lead, exceeds, prompt_lapses, prompt_stays, due_ahead}
 use Rattle.onetime.specs.OneTime.{due_at_start, asks_ahead, asks_at_start, prompt_ticks_next, prompt_kind_next, prompted_next}
@@ -28,7 +28,7 @@ use Rattle.state.specs.Mode.{mode_now, step_1_mode}
 use Rattle.rules.specs.Permitted.{ceiling, step_6_permitted}
 use Rattle.rules.specs.Answer.{marks}
 use Rattle.rules.specs.Tick.{signal_in, permitted_in, kind_in, cyclic_in, one_time_in, direction_in, standing_in}
-use Rattle.rules.specs.Tick.{triggers_in, releases_in, held_next, wrongway_next, state_next, answer_now, steps_2_to10, advance}
+use Rattle.rules.specs.Tick.{triggers_in, releases_in, held_next, wrongway_next, state_next, answer_now, steps_2_to_10, advance}
 use Rattle.rules.specs.After.{after}
 use Rattle.examples.specs.Drive.{ticks, drive, taken, at_end}
 use Rattle.examples.specs.Rows.{rows}
@@ -37,9 +37,9 @@ use Rattle.examples.specs.Rows.{rows}
 unfoldable pub rows_hold : map (λ row. row.what) rows ≡ map (λ row. row.is) rows
 unfolding rows ticks drive taken at_end of_bits quantity speed_at speed_of speed_value card_in_range record_in_range pressed keys_of target curve_bound largest_of
     curve_value signal_speed gap_man man_by_code curve_begins curve_by_code interrupted_next gap_next raise_by_code step_3_plus codes_next step_4_man driven_now
-    curve_holds man_starts curve_now man_now steps_2_to6 asks_increased asks_ordinary cyclic_kind cycle_length cyclic_lapses cyclic_ticks cyclic_prompts lead
+    curve_holds man_starts curve_now man_now steps_2_to_6 asks_increased asks_ordinary cyclic_kind cycle_length cyclic_lapses cyclic_ticks cyclic_prompts lead
     exceeds prompt_lapses prompt_stays due_ahead due_at_start asks_ahead asks_at_start prompt_ticks_next prompt_kind_next prompted_next held_in mask_of if_held listed
     first_or lowest how_many wrongway_now wrongway_triggers counted standing_now standing_triggers standing_sounds released step_10_held step_10_wrongway mode_now
     step_1_mode ceiling step_6_permitted signal_in permitted_in kind_in cyclic_in one_time_in direction_in standing_in triggers_in releases_in held_next wrongway_next
-    marks state_next answer_now steps_2_to10 advance after
+    marks state_next answer_now steps_2_to_10 advance after
 rows_hold = refl

@@ -9,10 +9,10 @@ use Rattle.record.specs.Modes.{pre}
 use Rattle.record.specs.Flags.{keys_of}
 use Rattle.signal.specs.declared.SignalStep.{SignalStep}
 use Rattle.signal.specs.Ranges.{no_signal}
-use Rattle.signal.specs.Steps.{steps_2_to6}
+use Rattle.signal.specs.Steps.{steps_2_to_6}
 use Rattle.state.specs.declared.State.{State}
 use Rattle.state.specs.Mode.{mode_now, step_1_mode}
-use Rattle.rules.specs.Tick.{signal_in, state_next, answer_now, steps_2_to10, advance}
+use Rattle.rules.specs.Tick.{signal_in, state_next, answer_now, steps_2_to_10, advance}
 
 module _ (card : Card) (state : State) (reading : Record) where
   abbrev pub cleared : State
@@ -22,15 +22,15 @@ module _ (card : Card) (state : State) (reading : Record) where
   found = signal_in card cleared reading
 
   pub start_after : (advance card state reading).state.signal.curve.start ≡ found.signal.curve.start
-  unfolding advance steps_2_to10 state_next
+  unfolding advance steps_2_to_10 state_next
   start_after = refl
 
   pub driven_after : (advance card state reading).state.signal.curve.driven ≡ found.signal.curve.driven
-  unfolding advance steps_2_to10 state_next
+  unfolding advance steps_2_to_10 state_next
   driven_after = refl
 
   pub target_after : (advance card state reading).answer.target ≡ found.target
-  unfolding advance steps_2_to10 answer_now
+  unfolding advance steps_2_to_10 answer_now
   target_after = refl
 
   mode_is : cleared.mode ≡ mode_now state reading
@@ -50,14 +50,14 @@ module _ (card : Card) (state : State) (reading : Record) where
   signal_cleared n = simp (ne_eqb (mode_now state reading) pre n, or-true)
 
   -- in PRE that of steps 2 to 6, from the signals as step 1 left them
-  pub in_mode : mode_now state reading ≡ pre → found ≡ steps_2_to6 card cleared.signal reading (keys_of reading.flags state.buttons)
+  pub in_mode : mode_now state reading ≡ pre → found ≡ steps_2_to_6 card cleared.signal reading (keys_of reading.flags state.buttons)
   unfolding signal_in
   in_mode now = simp (mode_is, buttons_are, now)
 
   -- where it was in PRE, those of the desk
   pub in_pre_lem : state.mode ≡ pre → mode_now state reading ≡ pre
-      → found ≡ steps_2_to6 card state.signal reading (keys_of reading.flags state.buttons)
-  in_pre_lem was now = in_mode now ∙ ap (λ signal. steps_2_to6 card signal reading (keys_of reading.flags state.buttons)) (signal_kept was now)
+      → found ≡ steps_2_to_6 card state.signal reading (keys_of reading.flags state.buttons)
+  in_pre_lem was now = in_mode now ∙ ap (λ signal. steps_2_to_6 card signal reading (keys_of reading.flags state.buttons)) (signal_kept was now)
 
   pub left_pre : (mode_now state reading ≡ pre → ⊥) → found.signal ≡ no_signal
   unfolding signal_in

@@ -24,7 +24,7 @@ use Rattle.state.specs.State.{StateRanges}
 use Rattle.state.proofs.Keeps.{step_1_mode_ranges}
 use Rattle.rules.specs.Permitted.{step_6_permitted}
 use Rattle.rules.specs.Tick.{signal_in, permitted_in, kind_in, cyclic_in, one_time_in, direction_in, standing_in}
-use Rattle.rules.specs.Tick.{held_next, wrongway_next, state_next, steps_2_to10, advance}
+use Rattle.rules.specs.Tick.{held_next, wrongway_next, state_next, steps_2_to_10, advance}
 
 pub permitted_most : (card : Card) (mode speed : ℕ) → CardRanges card → step_6_permitted card mode speed ≤ top_speed
 unfolding step_6_permitted
@@ -62,5 +62,5 @@ module _ (card : Card) (s : State) (r : Record) (card_good : CardRanges card) (g
       omega (arith, signal_in_ranges, cyclic_in_ranges, one_time_in_ranges, wrongway_next_most, standing_in_most, mask_of_most (held_next card s r))
 
 pub advance_keeps : (card : Card) (s : State) (r : Record) → CardRanges card → StateRanges s → RecordRanges r → StateRanges (advance card s r).state
-unfolding advance steps_2_to10
+unfolding advance steps_2_to_10
 advance_keeps card s r card_good good fits = state_next_ranges _ _ _ card_good (step_1_mode_ranges s r good fits) fits

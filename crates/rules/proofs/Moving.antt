@@ -16,7 +16,7 @@ use Rattle.causes.specs.Keeping.{released, keeps, step_10_held}
 use Rattle.state.specs.declared.State.{State}
 use Rattle.state.specs.Mode.{mode_now, step_1_mode}
 use Rattle.rules.specs.declared.AfterTick.{AfterTick}
-use Rattle.rules.specs.Tick.{triggers_in, releases_in, held_next, state_next, answer_now, steps_2_to10, advance}
+use Rattle.rules.specs.Tick.{triggers_in, releases_in, held_next, state_next, answer_now, steps_2_to_10, advance}
 use Rattle.rules.proofs.Valve.{advance_held}
 
 kept : (h t f : Bool) → h ≡ true → f ≡ false → keeps h t f ≡ true
@@ -51,7 +51,7 @@ module _ (card : Card) (state : State) (reading : Record) where
   new = held_in after.state.causes
 
   new_is : new ≡ step_10_held old due free
-  unfolding held_next step_1_mode releases_in answer_now steps_2_to10 advance
+  unfolding held_next step_1_mode releases_in answer_now steps_2_to_10 advance
   new_is = advance_held card state reading
 
   pub nz2_freed : old.nz2 ≡ true → new.nz2 ≡ false → (keys.vigilance ≡ true) × (reading.v ≤ after.answer.permitted)
@@ -67,7 +67,7 @@ module _ (card : Card) (state : State) (reading : Record) where
 
   module _ (moves : reading.v ≡ 0 → ⊥) where
     pub mode_stays : after.state.mode ≡ state.mode
-    unfolding mode_now step_1_mode state_next steps_2_to10 advance
+    unfolding mode_now step_1_mode state_next steps_2_to_10 advance
     mode_stays = simp (ne_eqb reading.v 0 moves)
 
     pub nz1_stays : old.nz1 ≡ true → new.nz1 ≡ true

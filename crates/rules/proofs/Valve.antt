@@ -20,7 +20,7 @@ use Rattle.state.specs.State.{fresh_state}
 use Rattle.state.specs.Mode.{step_1_mode}
 use Rattle.rules.specs.declared.Answer.{Answer}
 use Rattle.rules.specs.Answer.{no_answer}
-use Rattle.rules.specs.Tick.{held_next, answer_now, state_next, steps_2_to10, advance}
+use Rattle.rules.specs.Tick.{held_next, answer_now, state_next, steps_2_to_10, advance}
 use Rattle.rules.specs.After.{after}
 
 pub record Shows (a : Answer) (s : State) : Type 0 where
@@ -30,12 +30,12 @@ pub record Shows (a : Answer) (s : State) : Type 0 where
   pub held : a.held ≡ how_many s.causes
 
 pub advance_shows : (card : Card) (s : State) (r : Record) → Shows (advance card s r).answer (advance card s r).state
-unfolding answer_now state_next steps_2_to10 advance
+unfolding answer_now state_next steps_2_to_10 advance
 advance_shows card s r = record { causes = refl; most = mask_of_most (held_next card (step_1_mode s r) r); lowest = refl; held = refl }
 
 -- the mask is that of the causes that step 10 holds
 pub advance_held : (card : Card) (s : State) (r : Record) → held_in (advance card s r).state.causes ≡ held_next card (step_1_mode s r) r
-unfolding state_next steps_2_to10 advance
+unfolding state_next steps_2_to_10 advance
 advance_held card s r = held_mask (held_next card (step_1_mode s r) r)
 
 pub none_shows : Shows no_answer fresh_state

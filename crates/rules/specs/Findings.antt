@@ -5,8 +5,8 @@ use Rattle.state.specs.declared.State.{State}
 use Rattle.rules.specs.declared.Findings.{Findings}
 use Rattle.rules.specs.Tick.{keys_in, signal_in, permitted_in, cyclic_in, one_time_in, direction_in, standing_in}
 
-abbrev pub steps_2_to9 : Card → State → Record → Findings
-steps_2_to9 card state reading =
+abbrev pub steps_2_to_9 : Card → State → Record → Findings
+steps_2_to_9 card state reading =
     record {
       keys = keys_in card state reading;
       signal = signal_in card state reading;

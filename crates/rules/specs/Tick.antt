@@ -7,7 +7,7 @@ use Rattle.record.specs.declared.Keys.{Keys}
 use Rattle.record.specs.Modes.{pre}
 use Rattle.record.specs.Flags.{keys_of, buttons_of}
 use Rattle.signal.specs.declared.SignalStep.{SignalStep}
-use Rattle.signal.specs.Steps.{steps_2_to6}
+use Rattle.signal.specs.Steps.{steps_2_to_6}
 use Rattle.cyclic.specs.declared.CyclicStep.{CyclicStep}
 use Rattle.onetime.specs.declared.OneTimeStep.{OneTimeStep}
 use Rattle.cyclic.specs.Cyclic.{cyclic_kind, step_7_cyclic}
@@ -36,7 +36,7 @@ module _ (card : Card) (state : State) (reading : Record) where
   -- steps 2 to 6; outside PRE steps 2 to 5 are skipped, T is 0, and no rule looks at the signal speed
   unfoldable pub signal_in : SignalStep
   signal_in =
-      cond (eqb state.mode pre) (steps_2_to6 card state.signal reading keys_in)
+      cond (eqb state.mode pre) (steps_2_to_6 card state.signal reading keys_in)
       (record { signal = state.signal; target = 0; begins = false; speed = 0 })
 
   unfoldable pub permitted_in : ℕ
@@ -111,9 +111,9 @@ module _ (card : Card) (state : State) (reading : Record) where
     held = how_many (mask_of held_next);
   }
 
-  unfoldable pub steps_2_to10 : AfterTick
-  steps_2_to10 = record { state = state_next; answer = answer_now }
+  unfoldable pub steps_2_to_10 : AfterTick
+  steps_2_to_10 = record { state = state_next; answer = answer_now }
 
 -- steps 1 to 10
 unfoldable pub advance : Card → State → Record → AfterTick
-advance card state reading = steps_2_to10 card (step_1_mode state reading) reading
+advance card state reading = steps_2_to_10 card (step_1_mode state reading) reading

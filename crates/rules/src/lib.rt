@@ -10,8 +10,8 @@ ghost use Rattle.signal.specs.Ranges.{SignalStepRanges};
 ghost use Rattle.state.specs.State.{StateRanges};
 ghost use Rattle.rules.specs.Permitted.{ceiling, step_6_permitted};
 ghost use Rattle.rules.specs.Answer.{marks, answer_width, answer_bytes, no_answer, answer_at, put_answer};
-ghost use Rattle.rules.specs.Tick.{keys_in, signal_in, triggers_in, state_next, steps_2_to10, advance};
-ghost use Rattle.rules.specs.Findings.{steps_2_to9};
+ghost use Rattle.rules.specs.Tick.{keys_in, signal_in, triggers_in, state_next, steps_2_to_10, advance};
+ghost use Rattle.rules.specs.Findings.{steps_2_to_9};
 
 use card::Card;
 use causes::Causes;
@@ -122,7 +122,7 @@ fn step_6_permitted(card: Card, mode: u8, speed: u16) -> u16
 // Steps 2 to 9.
 fn steps_2_to_9(card: Card, state: State, reading: Record) -> Findings
     requires { CardRanges card × StateRanges state × RecordRanges reading }
-    ensures { result ≡ steps_2_to9 card state reading }
+    ensures { result ≡ steps_2_to_9 card state reading }
 {
     let keys = record::keys_of(reading.flags, state.buttons);
     let signal = signal_in(card, state, reading, keys);
@@ -165,7 +165,7 @@ fn steps_2_to_9(card: Card, state: State, reading: Record) -> Findings
 // Step 9: the triggers.
 #[tactic(auto, unfolding(crate::specs::Tick::triggers_in), using(crate::proofs::Keeps::permitted_in_most))]
 fn triggers_in(card: Card, state: State, reading: Record, findings: Findings) -> Causes
-    requires { CardRanges card × StateRanges state × RecordRanges reading × (findings ≡ steps_2_to9 card state reading) }
+    requires { CardRanges card × StateRanges state × RecordRanges reading × (findings ≡ steps_2_to_9 card state reading) }
     ensures { result ≡ triggers_in card state reading }
 {
     Causes {
@@ -179,7 +179,7 @@ fn triggers_in(card: Card, state: State, reading: Record, findings: Findings) ->
 
 // Step 10, and the state that the next tick starts from.
 fn state_next(card: Card, state: State, reading: Record, findings: Findings) -> State
-    requires { CardRanges card × StateRanges state × RecordRanges reading × (findings ≡ steps_2_to9 card state reading) }
+    requires { CardRanges card × StateRanges state × RecordRanges reading × (findings ≡ steps_2_to_9 card state reading) }
     ensures { (result ≡ state_next card state reading) × StateRanges result }
 {
     let triggers = triggers_in(card, state, reading, findings);
@@ -229,10 +229,10 @@ fn marks(signal: Signal, cyclic: CyclicStep, prompt: Prompt, standing: StandingS
 }
 
 // Steps 2 to 10 and the answer, from what steps 2 to 9 found.
-#[tactic(auto, unfolding(crate::specs::Tick::state_next, crate::specs::Tick::answer_now, crate::specs::Tick::steps_2_to10))]
+#[tactic(auto, unfolding(crate::specs::Tick::state_next, crate::specs::Tick::answer_now, crate::specs::Tick::steps_2_to_10))]
 fn steps_2_to_10(card: Card, state: State, reading: Record, findings: Findings) -> AfterTick
-    requires { CardRanges card × StateRanges state × RecordRanges reading × (findings ≡ steps_2_to9 card state reading) }
-    ensures { (result ≡ steps_2_to10 card state reading) × StateRanges result.state }
+    requires { CardRanges card × StateRanges state × RecordRanges reading × (findings ≡ steps_2_to_9 card state reading) }
+    ensures { (result ≡ steps_2_to_10 card state reading) × StateRanges result.state }
 {
     let next = state_next(card, state, reading, findings);
     let signal = findings.signal.signal;

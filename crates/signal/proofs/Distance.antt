@@ -24,7 +24,7 @@ use Rattle.signal.specs.Ranges.{CurveRanges, SignalRanges, no_curve}
 use Rattle.signal.specs.Value.{five_squares, curve_bound, curve_value}
 use Rattle.signal.specs.NewCode.{curve_from, old_speed, man_stays, curve_begins, curve_by_code}
 use Rattle.signal.specs.Curve.{driven_now, curve_holds, man_starts, curve_now}
-use Rattle.signal.specs.Steps.{target_now, steps_2_to6}
+use Rattle.signal.specs.Steps.{target_now, steps_2_to_6}
 use Rattle.signal.proofs.Value.{fits_most, value_largest, value_least, over_by_squares}
 use Rattle.signal.proofs.Keeps.{curve_by_code_ranges, steps_2_to_6_ranges}
 
@@ -97,7 +97,7 @@ begun speed start false runs e = absurd (omega arith)
 -- ---- steps 2 to 6
 module _ (card : Card) (signal : Signal) (reading : Record) (keys : Keys) where
   abbrev pub after : Curve
-  after = (steps_2_to6 card signal reading keys).signal.curve
+  after = (steps_2_to_6 card signal reading keys).signal.curve
 
   abbrev made : Curve
   made = curve_by_code card signal reading
@@ -107,12 +107,12 @@ module _ (card : Card) (signal : Signal) (reading : Record) (keys : Keys) where
 
   ran : 0 < after.start → (after.start ≡ made.start) × (after.driven ≡ driven_now made (curve_begins card signal reading) reading.v)
       × (curve_holds card made (curve_begins card signal reading) t reading.v ≡ true)
-  unfolding steps_2_to6
+  unfolding steps_2_to_6
   ran = goes_on card made (curve_begins card signal reading) t reading.v keys
 
   -- a curve that runs after it is above T
   pub above_target : CardRanges card → SignalRanges signal → RecordRanges reading → 0 < after.start → t < curve_value card after t after.driven
-  unfolding curve_holds steps_2_to6
+  unfolding curve_holds steps_2_to_6
   above_target card_good good fits runs =
       let r = ran runs in
       let driven = driven_now made (curve_begins card signal reading) reading.v in
@@ -135,7 +135,7 @@ module _ (card : Card) (signal : Signal) (reading : Record) (keys : Keys) where
 
     pub grows : 0 < after.start → (after.start ≡ signal.curve.start) × (after.driven ≡ signal.curve.driven + reading.v)
         × (curve_holds card signal.curve false t reading.v ≡ true)
-    unfolding steps_2_to6 driven_now
+    unfolding steps_2_to_6 driven_now
     grows = simp (kept, none_begins) (goes_on card signal.curve false t reading.v keys)
 
     -- T stays without a PLUS press
@@ -149,7 +149,7 @@ module _ (card : Card) (signal : Signal) (reading : Record) (keys : Keys) where
         (target card signal.codes.last signal.codes.raise)
         ≡ false
         → after.start ≡ signal.curve.start
-    unfolding steps_2_to6 driven_now curve_holds
+    unfolding steps_2_to_6 driven_now curve_holds
     stays_on plus man loss runs not_over =
         simp (kept, none_begins, target_stays plus)
         (holds_on card signal.curve false (target card signal.codes.last signal.codes.raise) reading.v keys runs
@@ -163,7 +163,7 @@ module _ (card : Card) (signal : Signal) (reading : Record) (keys : Keys) where
 
     -- a curve that begins has E = 0
     pub first_not_counted : after.driven ≡ 0
-    unfolding steps_2_to6
+    unfolding steps_2_to_6
     first_not_counted = simp begun_or_none (not_counted card (old_speed card signal) t reading.v keys (curve_begins card signal reading))
 
     -- and starts from the old signal speed

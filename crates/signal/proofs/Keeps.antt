@@ -23,7 +23,7 @@ use Rattle.codes.specs.Plus.{codes_next}
 use Rattle.codes.proofs.Keeps.{target_most, codes_next_ranges}
 use Rattle.signal.specs.Man.{step_4_man}
 use Rattle.signal.specs.Curve.{driven_now, curve_holds, curve_now, man_now, step_5_curve}
-use Rattle.signal.specs.Steps.{target_now, curve_and_man, steps_2_to6}
+use Rattle.signal.specs.Steps.{target_now, curve_and_man, steps_2_to_6}
 use Rattle.signal.proofs.Value.{value_most, unspent}
 
 pub signal_speed_most : (card : Card) (curve : Curve) (man t : ℕ) → CurveRanges curve → man ≤ top_speed → t ≤ top_speed
@@ -75,8 +75,8 @@ module _ (card : Card) (s : Signal) (r : Record) (card_good : CardRanges card) (
     curve_and_man_ranges =
         step_5_curve_ranges _ _ _ _ _ _ card_good curve_by_code_ranges target_now_most _ (step_4_man_most _ _ _ _ _ man_by_code_most) fits.v_most
 
-    pub steps_2_to_6_ranges : SignalStepRanges (steps_2_to6 card s r k)
-    unfolding steps_2_to6
+    pub steps_2_to_6_ranges : SignalStepRanges (steps_2_to_6 card s r k)
+    unfolding steps_2_to_6
     steps_2_to_6_ranges = record {
       signal = record {
         codes = codes_ranges;

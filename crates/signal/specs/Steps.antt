@@ -29,8 +29,8 @@ module _ (card : Card) (signal : Signal) (reading : Record) (keys : Keys) where
   abbrev pub signal_next : Signal
   signal_next = record { codes = codes_next signal.codes reading keys; curve = curve_and_man.curve; man = curve_and_man.man }
 
-  unfoldable pub steps_2_to6 : SignalStep
-  steps_2_to6 = record {
+  unfoldable pub steps_2_to_6 : SignalStep
+  steps_2_to_6 = record {
     signal = signal_next;
     target = target_now;
     begins = curve_begins card signal reading;

@@ -12,7 +12,7 @@ ghost use Rattle.signal.specs.Speed.{signal_speed};
 ghost use Rattle.signal.specs.NewCode.{gap_man, step_2_new_code};
 ghost use Rattle.signal.specs.Man.{step_4_man};
 ghost use Rattle.signal.specs.Curve.{driven_now, step_5_curve};
-ghost use Rattle.signal.specs.Steps.{steps_2_to6};
+ghost use Rattle.signal.specs.Steps.{steps_2_to_6};
 
 use card::Card;
 use codes::Codes;
@@ -305,10 +305,10 @@ fn step_5_curve(
 }
 
 // Steps 2 to 6.
-#[tactic(auto, using(crate::proofs::Keeps::steps_2_to_6_ranges), unfolding(crate::specs::Steps::steps_2_to6))]
+#[tactic(auto, using(crate::proofs::Keeps::steps_2_to_6_ranges), unfolding(crate::specs::Steps::steps_2_to_6))]
 pub fn steps_2_to_6(card: Card, signal: Signal, reading: Record, keys: Keys) -> SignalStep
     requires { CardRanges card × SignalRanges signal × RecordRanges reading }
-    ensures { (result ≡ steps_2_to6 card signal reading keys) × SignalStepRanges result }
+    ensures { (result ≡ steps_2_to_6 card signal reading keys) × SignalStepRanges result }
 {
     let unchanged = reading.code == signal.codes.last;
     let by_code = step_2_new_code(card, signal, reading);
