@@ -210,11 +210,11 @@ module _ (desk : Desk) (sample : Sample) (good : DeskRanges desk) (fits : Record
         stays = stays desk.card desk.state reading was same;
       }
 
-  new_code_lem : (n : ℕ) → (sample.code ≡ desk.state.signal.codes.last → ⊥)
+  new_code : (n : ℕ) → (sample.code ≡ desk.state.signal.codes.last → ⊥)
       → (desk.state.signal.man ≡ 0) ⊎ (reading.v < target desk.card sample.code 0)
       → NewCurve desk (record { card = desk.card; n = n; state = after.state })
   unfolding sample_record
-  new_code_lem n new man =
+  new_code n new man =
       let off = man_gone desk.card desk.state.signal reading man in
       record {
         first = first desk.card desk.state reading was new off;
@@ -239,9 +239,9 @@ distance = record {
   same_code = λ d x J o K f z was same. let r = taken d x J o K f z in
       let g = ((demand2.tick d x J o K f).1 z).2 in
       rw (g.desk, g.answer) (same_code d x r.0 r.1 was (d.n + 1) same);
-  new_code_lem = λ d x J o K f z was new man. let r = taken d x J o K f z in
+  new_code = λ d x J o K f z was new man. let r = taken d x J o K f z in
       let g = ((demand2.tick d x J o K f).1 z).2 in
-      rw g.desk (new_code_lem d x r.0 r.1 was (d.n + 1) new man);
+      rw g.desk (new_code d x r.0 r.1 was (d.n + 1) new man);
 }
 
 pub distance_exported : Distance exported

@@ -73,6 +73,6 @@ pub record Distance (F : Functions) : Type 0 where
   pub same_code : (desk : Desk) (sample : Sample) (journal : List ℕ) (out : Outcome) (left : List ℕ) → F.ticks desk sample journal out left
       → out.refusal ≡ 0 → desk.state.mode ≡ pre → sample.code ≡ desk.state.signal.codes.last
       → SameCode desk sample out.desk out.answer.target
-  pub new_code_lem : (desk : Desk) (sample : Sample) (journal : List ℕ) (out : Outcome) (left : List ℕ) → F.ticks desk sample journal out left
+  pub new_code : (desk : Desk) (sample : Sample) (journal : List ℕ) (out : Outcome) (left : List ℕ) → F.ticks desk sample journal out left
       → out.refusal ≡ 0 → desk.state.mode ≡ pre → (sample.code ≡ desk.state.signal.codes.last → ⊥)
       → (desk.state.signal.man ≡ 0) ⊎ (v sample < target desk.card sample.code 0) → NewCurve desk out.desk

@@ -50,7 +50,7 @@ pub record DeskFits (desk : Desk) : Type 0 where
   -- E
   pub curve_driven : desk.state.signal.curve.driven ≤ 6250000
   -- M
-  pub man_speed_lem : desk.state.signal.man ≤ 2500
+  pub man_speed : desk.state.signal.man ≤ 2500
   -- w
   pub one_time_given : desk.state.signal.curve.prompted ≤ 1
   -- u
@@ -61,7 +61,7 @@ pub record DeskFits (desk : Desk) : Type 0 where
   -- q
   pub vigilance_ticks : desk.state.cyclic.ticks ≤ 599
   -- d
-  pub wrong_way_lem : desk.state.wrongway ≤ 3600
+  pub wrong_way : desk.state.wrongway ≤ 3600
   -- h
   pub standing : desk.state.standing ≤ 1000
   pub causes : desk.state.causes ≤ 31

@@ -1,4 +1,4 @@
-// The messages of two tables of texts on standard output, one of them or all side by side.
+// The messages of two tables of texts on a writer, one of them or all side by side.
 // What prints stops where not all of it was written.
 #![tactic(auto)]
 

@@ -138,8 +138,8 @@ fn tell_runs<'a, W: Write>(
     journal: &mut [u8],
 ) -> Drive
     requires card_ranges { CardRanges card }
-    requires file_value { header_good file.now ≡ true }
-    requires file_value_2 { runs_refusal file.now (run_count file.now) ≡ 0 }
+    requires good_header { header_good file.now ≡ true }
+    requires no_run_refused { runs_refusal file.now (run_count file.now) ≡ 0 }
 {
     let from = file::runs_from(file::card_count(file));
     let runs = file::run_count(file) as usize;
@@ -202,8 +202,8 @@ fn tell_card<'a, W: Write>(
     card: Card,
 ) -> io::Result<()>
     requires card_ranges { CardRanges card }
-    requires file_value { header_good file.now ≡ true }
-    requires file_value_2 { runs_refusal file.now (run_count file.now) ≡ 0 }
+    requires good_header { header_good file.now ≡ true }
+    requires no_run_refused { runs_refusal file.now (run_count file.now) ≡ 0 }
 {
     wording::print_card(out, number)?;
     let mut journal = [0u8; JOURNAL_MOST];
@@ -228,9 +228,9 @@ fn tell_cards<'a, W: Write>(
     second: &'a [u8],
     file: &[u8],
 ) -> io::Result<()>
-    requires file_value { header_good file.now ≡ true }
-    requires file_value_2 { cards_in_range file.now (card_count file.now) ≡ true }
-    requires file_value_3 { runs_refusal file.now (run_count file.now) ≡ 0 }
+    requires good_header { header_good file.now ≡ true }
+    requires good_cards { cards_in_range file.now (card_count file.now) ≡ true }
+    requires no_run_refused { runs_refusal file.now (run_count file.now) ≡ 0 }
 {
     let cards = file::card_count(file);
     for i in 0..cards {

@@ -52,12 +52,14 @@ fn time_of(tick: u16) -> Time
 }
 
 // A tick and its time, with something between them.
-fn print_tick<W: Write>(out: &mut W, tick: u16, between: &str) -> io::Result<()> {
+fn print_tick<W: Write>(out: &mut W, tick: u16, between: &[u8]) -> io::Result<()> {
     let time = time_of(tick);
     let minutes = time.minutes;
     let seconds = time.seconds;
     let tenths = time.tenths;
-    write!(out, "tick {tick}{between}{minutes}:{seconds:02}.{tenths}")
+    write!(out, "tick {tick}")?;
+    out.write_all(between)?;
+    write!(out, "{minutes}:{seconds:02}.{tenths}")
 }
 
 fn print_speed<W: Write>(out: &mut W, v: u16) -> io::Result<()> {
@@ -117,7 +119,7 @@ fn print_band<W: Write>(out: &mut W, band: u8) -> io::Result<()> {
 }
 
 // A flag that is on, behind a comma where one of lower weight is on.
-fn print_flag<W: Write>(out: &mut W, flags: u8, weight: u8, name: &str) -> io::Result<()>
+fn print_flag<W: Write>(out: &mut W, flags: u8, weight: u8, name: &[u8]) -> io::Result<()>
     requires { 1 ≤ weight }
 {
     if flags / weight % 2 == 0 {
@@ -126,20 +128,20 @@ fn print_flag<W: Write>(out: &mut W, flags: u8, weight: u8, name: &str) -> io::R
     if flags % weight != 0 {
         out.write_all(b", ")?;
     }
-    out.write_all(name.as_bytes())
+    out.write_all(name)
 }
 
 fn print_flags<W: Write>(out: &mut W, flags: u8) -> io::Result<()> {
     if flags == 0 {
         return out.write_all(b"nothing");
     }
-    print_flag(out, flags, record::VIGILANCE, "vigilance")?;
-    print_flag(out, flags, record::PLUS, "PLUS")?;
-    print_flag(out, flags, record::MAN, "MAN")?;
-    print_flag(out, flags, record::BRAKE, "direct brake")?;
-    print_flag(out, flags, record::REMOTE, "remote stop")?;
-    print_flag(out, flags, record::LOSS, "adhesion loss")?;
-    print_flag(out, flags, record::CAB, "cab")
+    print_flag(out, flags, record::VIGILANCE, b"vigilance")?;
+    print_flag(out, flags, record::PLUS, b"PLUS")?;
+    print_flag(out, flags, record::MAN, b"MAN")?;
+    print_flag(out, flags, record::BRAKE, b"direct brake")?;
+    print_flag(out, flags, record::REMOTE, b"remote stop")?;
+    print_flag(out, flags, record::LOSS, b"adhesion loss")?;
+    print_flag(out, flags, record::CAB, b"cab")
 }
 
 // What a record has beside its code and its mode.
@@ -170,7 +172,7 @@ pub fn print_change<'a, W: Write>(
     cause: u8,
     held: bool,
 ) -> io::Result<()> {
-    print_tick(out, moment.tick, "  ")?;
+    print_tick(out, moment.tick, b"  ")?;
     out.write_all(b"  ")?;
     print_speed(out, moment.v)?;
     out.write_all(b", permitted ")?;
@@ -191,7 +193,7 @@ pub fn print_quiet<W: Write>(out: &mut W) -> io::Result<()> {
 
 pub fn print_open<W: Write>(out: &mut W, tick: u16) -> io::Result<()> {
     out.write_all(b"after ")?;
-    print_tick(out, tick, ", ")?;
+    print_tick(out, tick, b", ")?;
     out.write_all(b", the valve is open\n")
 }
 
@@ -206,7 +208,7 @@ pub fn print_reason<'a, W: Write>(
 ) -> io::Result<()> {
     print_name(out, cause)?;
     out.write_all(b" held since ")?;
-    print_tick(out, tick, ", ")?;
+    print_tick(out, tick, b", ")?;
     out.write_all(b"\n")?;
     print_texts(out, first, second, cause, reading.code, reading.mode)?;
     print_record(out, reading)

@@ -8,4 +8,4 @@ pub tell_cards-requires : goal.tell_cards-requires
 tell_cards-requires g c =
     let read = read_good _ (sym (ap (λ (x : Counts). x.refusal) c.read-counts.ensures) ∙ c.if-counts-ne0.false) in
     let head = head_good _ read.0 in
-    record { file_value = head.0; file_value_2 = head.1; file_value_3 = read.1 }
+    record { good_header = head.0; good_cards = head.1; no_run_refused = read.1 }

@@ -12,13 +12,13 @@ unfolding ticks_to
 loop-j-init g c = record { ticks = refl; ranges = rw c.fresh_state-state.ensures fresh_ranges }
 
 pub run_in-run-requires : goal.run_in-run-requires
-run_in-run-requires g c = let length = header_length _ c.requires.file_value in (omega arith, omega arith)
+run_in-run-requires g c = let length = header_length _ c.requires.good_header in (omega arith, omega arith)
 
 pub tell_run-drive-requires : goal.tell_run-drive-requires
 tell_run-drive-requires g c =
     let inv = c.loop-j.invariant in
     let read = c.run_in-run.ensures in
-    let run = run_driven _ _ _ _ _ _ c.requires.file_value_2 c.run_count-runs.ensures c.loop-j-test.true inv.ticks read.0 read.1 in
+    let run = run_driven _ _ _ _ _ _ c.requires.no_run_refused c.run_count-runs.ensures c.loop-j-test.true inv.ticks read.0 read.1 in
     (c.requires.card_ranges, inv.ranges, record_ranges _ run.good, run.most)
 
 pub loop-j-preserved : goal.loop-j-preserved
