@@ -1,4 +1,4 @@
--- Our functions as the demands speak of calls, and the calls that the archive exports. What a function asks is its `requires`, what it may return is what
+-- Our functions as the demands speak of calls, and the calls that the archive's exports hand on to. What a function asks is its `requires`, what it may return is what
 -- it is proved to show (`Post` of the generated module `Reads`, its `ensures` as the check reads them off the source), and what its parameters may be at
 -- exit is what their types say (`ended`). `now` is what a lent slice holds. The laws below take the contracts' equations and the types' out; nothing else
 -- of the relations is used.
@@ -110,7 +110,7 @@ functions =
           (κs : Lfts 2) (f : Lent file) (b : LentToWrite buffer) → FromNothing (hosting.requires κs (f.0, (card, (b.0, tt))) tt);
     }
 
--- the calls of the archive; `exercise::run` itself is not exported, so `runs` is the function's and `hosts` the archive's call
+-- the calls that exports hand on to; `exercise::run` itself is not exported, so `runs` is the function's and `hosts` the archive's call
 pub exported : Functions
 exported =
     record {

@@ -1,6 +1,6 @@
 -- The calls of the paper, and of request 1, as relations: that a call may be made (`.._asks`: what it asks of its caller is there), what it may return,
 -- and what every lent slice may hold afterwards. The demands are said of any such relations. proofs/Functions.antt has those of our functions and those of
--- the calls that the archive exports, read off their contracts.
+-- the calls that the archive's exports hand on to, read off their contracts.
 use Rattle.std.specs.Prelude.{ℕ, List}
 use Rattle.card.specs.declared.Card.{Card}
 use Rattle.record.specs.declared.Sample.{Sample}
