@@ -29,8 +29,6 @@ for edit in crates/*/must-fail/*.edit; do
     name=${name/\/must-fail/}
     grep -qF "\`${name%.edit}\`" docs/CONTRACTS.md || miss "not in CONTRACTS.md: ${name%.edit}"
 done
-# function_of NAME FILE: parameters and clauses of the function, however they are laid out
-function_of() { sed -nE "/^pub (extern \"C\" )?fn $1(<.*>)?\(/,/^}/p" "$2" | sed 's/^pub extern "C" fn/pub fn/' | sed '/^{$/,$d' | tr -d ' \n' | sed 's/,)/)/'; }
 objects=" $(sed -n 's/^objects="\([^"]*\)".*/\1/p' host/build.sh) "
 for source in crates/*/src/*.rt; do
     crate=${source#crates/}
@@ -39,7 +37,9 @@ for source in crates/*/src/*.rt; do
     for name in $(sed -n 's/^pub extern "C" fn \([a-z0-9_]*\).*/\1/p' "$source"); do
         [[ $objects == *" $crate "* ]] || miss "not in the archive that host/build.sh makes: $name"
         grep -q "^[a-z_0-9]* $name(" host/foldharbor.h || miss "the header has no $name"
-        cmp -s <(function_of "$name" "$source") <(function_of "$name" "crates/$below/src/lib.rt") || miss "exported with other clauses than $below has: $name"
+        for part in asks promises; do
+            grep -q "^pub ${name#foldharbor_}_$part : .*_exported.* ≡ .*_called" "crates/$crate/proofs/Same.antt" || miss "not in Same.antt of $crate: $name"
+        done
         grep -q "^    $below::$name(" "$source" || miss "does not hand on to $below: $name"
         grep -q "\*\*\`$below::$name(" docs/CONTRACTS.md || miss "not in CONTRACTS.md: $name"
         grep -q "^use .*\.$name\.Reads as" "crates/$below/proofs/Determined.antt" || miss "not in Determined.antt of $below: $name"
