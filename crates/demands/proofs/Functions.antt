@@ -1,7 +1,7 @@
--- Our functions as the demands speak of calls, and the calls that the archive's exports hand on to. What a function asks is its `requires`, what it may return is what
--- it is proved to show (`Post` of the generated module `Reads`, its `ensures` as the check reads them off the source), and what its parameters may be at
--- exit is what their types say (`ended`). `now` is what a lent slice holds. The laws below take the contracts' equations and the types' out; nothing else
--- of the relations is used.
+-- Our functions as the demands speak of calls, and the calls that the archive's exports hand on to. What a function asks is its `requires`, what it may
+-- return is what it is proved to show (`Post` of the generated module `Reads`, its `ensures` as the check reads them off the source), and what its
+-- parameters may be at exit is what their types say (`ended`). `now` is what a lent slice holds. The laws below take the contracts' equations and the
+-- types' out; nothing else of the relations is used.
 use Prim.Native.Nat.{ℕ}
 use mathlib.Core.Path.{◌≡◌, refl, sym, ap, ap₂, ◌∙◌}
 use mathlib.Core.List.{List, []}

@@ -33,13 +33,12 @@ use Rattle.rules.specs.After.{after}
 use Rattle.examples.specs.Drive.{ticks, drive, taken, at_end}
 use Rattle.examples.specs.Rows.{rows}
 
--- with `[]` and `◌∷◌` in scope, a refusal of a short table shows the numbers that differ
 unfoldable pub rows_hold : map (λ row. row.what) rows ≡ map (λ row. row.is) rows
-unfolding rows ticks drive taken at_end of_bits quantity speed_at speed_of speed_value card_in_range record_in_range pressed keys_of target curve_bound largest_of
-    curve_value signal_speed gap_man man_by_code curve_begins curve_by_code interrupted_next gap_next raise_by_code step_3_plus codes_next step_4_man driven_now
-    curve_holds man_starts curve_now man_now steps_2_to_6 asks_increased asks_ordinary cyclic_kind cycle_length cyclic_lapses cyclic_ticks cyclic_prompts lead
-    exceeds prompt_lapses prompt_stays due_ahead due_at_start asks_ahead asks_at_start prompt_ticks_next prompt_kind_next prompted_next held_in mask_of if_held listed
-    first_or lowest how_many wrongway_now wrongway_triggers counted standing_now standing_triggers standing_sounds released step_10_held step_10_wrongway mode_now
-    step_1_mode ceiling step_6_permitted signal_in permitted_in kind_in cyclic_in one_time_in direction_in standing_in triggers_in releases_in held_next wrongway_next
-    marks state_next answer_now steps_2_to_10 advance after
+unfolding rows ticks drive taken at_end of_bits quantity speed_at speed_of speed_value card_in_range record_in_range pressed keys_of target curve_bound
+    largest_of curve_value signal_speed gap_man man_by_code curve_begins curve_by_code interrupted_next gap_next raise_by_code step_3_plus codes_next
+    step_4_man driven_now curve_holds man_starts curve_now man_now steps_2_to_6 asks_increased asks_ordinary cyclic_kind cycle_length cyclic_lapses
+    cyclic_ticks cyclic_prompts lead exceeds prompt_lapses prompt_stays due_ahead due_at_start asks_ahead asks_at_start prompt_ticks_next prompt_kind_next
+    prompted_next held_in mask_of if_held listed first_or lowest how_many wrongway_now wrongway_triggers counted standing_now standing_triggers
+    standing_sounds released step_10_held step_10_wrongway mode_now step_1_mode ceiling step_6_permitted signal_in permitted_in kind_in cyclic_in
+    one_time_in direction_in standing_in triggers_in releases_in held_next wrongway_next marks state_next answer_now steps_2_to_10 advance after
 rows_hold = refl

@@ -1,5 +1,6 @@
 -- What a turn reads stands behind what was filled before it.
-use Rattle.std.proofs.Common.{◌≡◌, ℕ, ◌+◌, ◌-◌, ◌≤◌, List, ◌++◌, arith, rules, length, take, slice_range, sym, ap, ◌∙◌, subst, le_refl, drop_at, length-take-le}
+use Rattle.std.proofs.Common.{◌≡◌, ℕ, ◌+◌, ◌-◌, ◌≤◌, List, ◌++◌, arith, rules, length, take, slice_range, sym, ap, ◌∙◌, subst, le_refl}
+use Rattle.std.proofs.Common.{drop_at, length-take-le}
 use Rattle.std.proofs.lemmas.Slice.{take-put_mid_below}
 use Rattle.std.proofs.KnownBytes.{Consumes-trans}
 use Rattle.std.specs.Io.KnownBytes.{Consumes}
@@ -18,13 +19,18 @@ part_written : (a k n : ℕ) (xs ys : List ℕ) → a ≤ length xs → n ≤ le
 part_written a k n xs ys within fits =
     let same : (a + n) - a ≡ n = omega arith in
     let after = post_of a k xs in
-    ap (take ((a + n) - a)) (drop_at (take a xs) (ys ++ after) a (length-take-le a xs within)) ∙ ap (λ m. take m (ys ++ after)) same ∙ take-append-le n ys after fits
+    let from_here = ap (take ((a + n) - a)) (drop_at (take a xs) (ys ++ after) a (length-take-le a xs within)) in
+    from_here ∙ ap (λ m. take m (ys ++ after)) same ∙ take-append-le n ys after fits
 
 pub loop-n-preserved : goal.loop-n-preserved
 loop-n-preserved g c =
     let from = c.loop-n.n in
-    let room = length c.loop-n.buffer - from in
+    let more = c.in_ok-more.more in
+    let old = c.loop-n.buffer in
+    let room = length old - from in
+    let new = put_mid from room old c.read.new.buf in
     let within = c.loop-n.invariant.1 in
-    let part = part_written from room c.in_ok-more.more c.loop-n.buffer c.read.new.buf within c.in_ok-more.ensures.bound.0 in
-    let joined = take_split from (from + c.in_ok-more.more) c.loop-n.buffer (put_mid from room c.loop-n.buffer c.read.new.buf) (omega arith) (take-put_mid_below _ _ _ _ _ (le_refl _) within) in
-    (search rules, search rules, subst (Consumes _ _) (ap (λ l. take from c.loop-n.buffer ++ l) (sym part) ∙ joined) (Consumes-trans _ _ _ _ _ c.loop-n.invariant.2 c.in_ok-more.ensures.bytes.0))
+    let part = part_written from room more old c.read.new.buf within c.in_ok-more.ensures.bound.0 in
+    let joined = take_split from (from + more) old new (omega arith) (take-put_mid_below _ _ _ _ _ (le_refl _) within) in
+    let taken = Consumes-trans _ _ _ _ _ c.loop-n.invariant.2 c.in_ok-more.ensures.bytes.0 in
+    (search rules, search rules, subst (Consumes _ _) (ap (λ l. take from old ++ l) (sym part) ∙ joined) taken)

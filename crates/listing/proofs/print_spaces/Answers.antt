@@ -26,6 +26,8 @@ loop-left-preserved g c =
     (omega arith, more _ _ _ c.args.count c.loop-left.left 16 c.loop-left.invariant.0 (omega arith) c.loop-left.invariant.1 c.in_ok-write_all.ensures.bytes)
 
 pub returns : goal.returns
-returns g c = record {
-  bytes = last _ _ _ c.write_all-2.result c.args.count c.loop-left.left _ c.loop-left.invariant.0 (take-replicate c.loop-left.left 16 32 (omega arith)) c.loop-left.invariant.1 c.write_all-2.ensures.bytes;
-}
+returns g c =
+    let left = c.loop-left.left in
+    let written = take-replicate left 16 32 (omega arith) in
+    let before = c.loop-left.invariant.1 in
+    record { bytes = last _ _ _ c.write_all-2.result c.args.count left _ c.loop-left.invariant.0 written before c.write_all-2.ensures.bytes }
