@@ -28,7 +28,8 @@ use Rattle.demands.proofs.Refusals.{open_first, tick_first, back_first, restart_
 use Rattle.demands.proofs.Numbers.{tick_number_lem, back_number, read_number, host_refused, host_accepted}
 
 -- ---- by the definitions
-open_no : (card : Card) → ((open_outcome card).refusal ≡ 0 → ⊥) → ((open_outcome card).desk ≡ zero_desk) × ((open_outcome card).answer ≡ zero_answer)
+open_no : (card : Card) → ((open_outcome card).refusal ≡ 0 → ⊥)
+    → ((open_outcome card).desk ≡ zero_desk) × ((open_outcome card).answer ≡ zero_answer)
 unfolding open_outcome
 open_no card n = go (card_in_range card) refl
   where

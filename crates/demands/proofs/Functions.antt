@@ -119,7 +119,8 @@ exported =
       ticks = λ desk sample journal out left.
           (κs : Lfts 1) × (j : LentToWrite journal)
           × Returned exported_tick_call.ended exported_ticking.Post κs (desk, (sample, (j.0, tt))) out (λ exit. exit.1.1.0.now ≡ left);
-      ticks_asks = λ desk sample journal. (κs : Lfts 1) (j : LentToWrite journal) → FromNothing (exported_ticking.requires κs (desk, (sample, (j.0, tt))) tt);
+      ticks_asks = λ desk sample journal.
+          (κs : Lfts 1) (j : LentToWrite journal) → FromNothing (exported_ticking.requires κs (desk, (sample, (j.0, tt))) tt);
       steps_back = λ desk k journal out left.
           (κs : Lfts 1) × (j : Lent journal)
           × Returned exported_back_call.ended exported_backing.Post κs (desk, (k, (j.0, tt))) out (λ exit. exit.1.1.0.now ≡ left);

@@ -48,11 +48,13 @@ ticks_most file zero e = omega arith
 ticks_most file (suc j) e = (runs_each file j (suc j) (omega arith) e).fits
 
 module _ (file : List ℕ) (card room : ℕ) where
-  pub host_refused : (exercise_refusal file card room ≡ 0 → ⊥) → host_number (exercise_outcome file card room) ≡ 10000 + exercise_refusal file card room
+  pub host_refused : (exercise_refusal file card room ≡ 0 → ⊥)
+      → host_number (exercise_outcome file card room) ≡ 10000 + exercise_refusal file card room
   unfolding host_number exercise_outcome
   host_refused n = rw (ne_eqb _ _ n, ne_eqb _ _ n)
 
-  pub host_accepted : exercise_refusal file card room ≡ 0 → (host_number (exercise_outcome file card room) ≡ tick_count file) × (tick_count file ≤ 7200)
+  pub host_accepted : exercise_refusal file card room ≡ 0
+      → (host_number (exercise_outcome file card room) ≡ tick_count file) × (tick_count file ≤ 7200)
   unfolding host_number exercise_outcome
   host_accepted e = (rw (eq-eqb _ _ e), ticks_most file (run_count file) (run_taken file card room e).runs_good)
 

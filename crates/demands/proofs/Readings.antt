@@ -48,7 +48,8 @@ module _ (minus : Bool) (m n d : ℕ) (p : 0 < d) where
 
   speed_by : (b : Bool) → below minus m ≡ b → (t : Bool) → leb (rounded n d) 2500 ≡ t
       → (s : Speed) → s ≡ cond b Refused (cond t (Tenths (rounded n d)) Refused)
-      → First (speed_refusal s) (reason 1 (Below ⊎ ((v : ℕ) × (2500 < v) × FloorOf n d v)) none) × (speed_refusal s ≡ 0 → FloorOf n d (speed_value s))
+      → First (speed_refusal s) (reason 1 (Below ⊎ ((v : ℕ) × (2500 < v) × FloorOf n d v)) none)
+      × (speed_refusal s ≡ 0 → FloorOf n d (speed_value s))
   unfolding First speed_refusal speed_value
   speed_by true e t q s is = rw is (inl (inl (below_is minus m e), refl), λ z. absurd (omega arith))
   speed_by false e false q s is = rw is (inl (inr (rounded n d, leb-false _ _ q, floor_is n d p), refl), λ z. absurd (omega arith))

@@ -142,7 +142,8 @@ module _ (file : List ℕ) where
           → (b : Bool) → record_in_range (run_record file m) ≡ b → Run (suc m)
       here z f true p b q = ticks (rw (z, p, first_zero)) m (omega arith) f ((bad_ticks_lem m).0 p)
       here z f false p true q =
-          all (rw (z, p, q, first_zero)) (fit_more m f (record { ticks = λ h. false≢true (sym p ∙ (bad_ticks_lem m).1 h); record_fits = (record_fits _).0 q }))
+          all (rw (z, p, q, first_zero))
+          (fit_more m f (record { ticks = λ h. false≢true (sym p ∙ (bad_ticks_lem m).1 h); record_fits = (record_fits _).0 q }))
       here z f false p false q =
           record_of (rw (z, p, q, first_zero)) m (omega arith) f (λ h. false≢true (sym p ∙ (bad_ticks_lem m).1 h))
           (λ h. false≢true (sym q ∙ (record_fits _).1 h))

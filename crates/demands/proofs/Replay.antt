@@ -334,7 +334,9 @@ module _ (card : Card) (L : ℕ) (ok : card_in_range card ≡ true) (s t : Drive
           ∙ sym (Calls.back_yes _ _ _ (back_open card L ok t w k (omega arith)))
       go (no h) =
           let m = ap length e in
-          back_closed card L ok s v k (omega arith) ∙ ap (λ (d : Desk). refused d back_too_far) desks_same ∙ sym (back_closed card L ok t w k (omega arith))
+          back_closed card L ok s v k (omega arith)
+          ∙ ap (λ (d : Desk). refused d back_too_far) desks_same
+          ∙ sym (back_closed card L ok t w k (omega arith))
   outcomes_same Restart = ap restart_outcome desks_same
 
   kept_same : (c : Call) → (call t c).kept ≡ (call s c).kept

@@ -5,7 +5,8 @@ use Rattle.std.specs.Io.KnownBytes.{Appends}
 use Rattle.listing.specs.Printed.{row, rows}
 use Rattle.listing.proofs.show_all.Goals as goal
 
-one_more : (first second : List ℕ) (width number : ℕ) → rows first second width (number + 1) ≡ rows first second width number ++ row first second width number
+one_more : (first second : List ℕ) (width number : ℕ)
+    → rows first second width (number + 1) ≡ rows first second width number ++ row first second width number
 unfolding rows
 one_more first second width number = rw add-one
 
