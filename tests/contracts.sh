@@ -68,13 +68,14 @@ rm -r "$tree/crates/desk/proofs/Desk/step_back" || exit 1
 change foldharbor_back/src/lib.rt 's/back_outcome desk k journal\.now/restart_outcome desk/; s/{back_outcome}/{restart_outcome}/'
 
 # mode 1 in the desk of a refused opening
-change desk/src/lib.rt 's/state\.mode = 0;/state.mode = 1;/'
+change desk/src/lib.rt 's/return refused(Desk::default(), \(.*\));/let mut zeros = Desk::default();\n            zeros.state.mode = 1;\n            return refused(zeros, \1);/'
 change desk/specs/Desk.antt '/^no_desk = /s/ 0 }$/ 1 }/'
 
 # 6 for a desk out of range, 5 for a journal shorter than 8n
-change desk/src/lib.rt 's/return refusal::BAD_DESK;/return refusal::OTHER;/; s/SHORT_JOURNAL/BAD_DESK/; s/OTHER/SHORT_JOURNAL/'
+change desk/src/lib.rt '/^pub fn fit_desk(/,/^}/{s/BadDesk/Other/; s/ShortJournal/BadDesk/; s/Other/ShortJournal/}'
 change desk/specs/Calls.antt '/^desk_refusal /{s/bad_desk/other/; s/short_journal/bad_desk/; s/other/short_journal/}'
-change desk/proofs/Calls.antt '/passed (/{s/bad_desk/other/; s/short_journal/bad_desk/; s/other/short_journal/}'
+change desk/proofs/Calls.antt '/passed (/{s/bad_desk/other/; s/short_journal/bad_desk/; s/other/short_journal/}' \
+    -e '/pub desk_bad /s/bad_desk/short_journal/; /pub desk_short /s/short_journal/bad_desk/'
 
 # 14 where NZ1 alone is held, and why told of a closed valve
 change why/src/lib.rt 's/desk\.state\.causes == 0/desk.state.causes == 1/'
@@ -83,11 +84,11 @@ change why/proofs/Calls.antt 's/eqb d\.state\.causes 0/eqb d.state.causes 1/; s/
 change why/proofs/Order.antt 's/causes ≡ 0/causes ≡ 1/'
 
 # a journal that takes 7,199 records
-change journal/src/lib.rt 's/let most = .*;/let most = 7199;/'
+change journal/src/lib.rt 's/\.min(record::MOST_TICKS as usize)/.min(7199)/'
 change journal/specs/Journal.antt 's/min most_ticks/min 7199/'
 
 # an answer with its lowest cause and its count of causes in each other's place, written and read so
-change rules/src/lib.rt '/^        answer\.lowest,$/{N;s/lowest,\(.*\)held,/held,\1lowest,/}' -e 's/byte_at(bytes, at, 6)/byte_at(bytes, at, 8)/' \
+change rules/src/lib.rt '/^ *answer\.lowest,$/{N;s/lowest,\(.*\)held,/held,\1lowest,/}' -e 's/byte_at(bytes, at, 6)/byte_at(bytes, at, 8)/' \
     -e 's/byte_at(bytes, at, 7)/byte_at(bytes, at, 6)/' -e 's/byte_at(bytes, at, 8)/byte_at(bytes, at, 7)/'
 change rules/specs/Answer.antt 's/answer\.lowest ∷ answer\.held/answer.held ∷ answer.lowest/' \
     -e 's/(at + 6)/(at + 8)/; s/(at + 7)/(at + 6)/; s/(at + 8)/(at + 7)/'

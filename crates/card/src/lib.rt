@@ -2,14 +2,16 @@
 #![tactic(auto)]
 
 ghost use Rattle.std.specs.Prelude.{◌≡◌, ◌+◌, ◌≤◌, length};
-ghost use Rattle.card.specs.Card.{card_in_range, no_card, card_width, card_at, put_card};
+ghost use Rattle.card.specs.Card.{CardRanges, card_in_range, card_width, card_at, put_card};
+ghost use Rattle.card.specs.Laws.{card_laws};
 
 use layout::u16_within;
+use ranges::Ranged;
 use reading::TOP_SPEED;
 
 // Speeds in tenths of km/h, times in ticks of 0.1 s.
 #[repr(C)]
-#[derive(Clone, Copy)]
+#[derive(Clone, Copy, Default, PartialEq, Eq)]
 pub struct Card {
     pub design: u16,
     pub set: u16,
@@ -36,44 +38,32 @@ const SHORT_WAIT: u16 = 250;
 
 pub const LONG_WAIT: u16 = 1000;
 
-#[tactic(auto, unfolding(crate::specs::Card::card_in_range))]
-pub fn card_in_range(card: Card) -> bool
-    ensures { result ≡ card_in_range card }
-{
-    (1 <= card.design)
-        & (card.design <= TOP_SPEED)
-        & (1 <= card.set)
-        & (card.set <= TOP_SPEED)
-        & (1 <= card.highest)
-        & (card.highest <= TOP_SPEED)
-        & (1 <= card.pos)
-        & (card.pos <= TOP_SPEED)
-        & (1 <= card.zav)
-        & (card.zav <= TOP_SPEED)
-        & (card.tolerance <= 100)
-        & (card.stop <= 400)
-        & (5 <= card.deceleration)
-        & (card.deceleration <= 40)
-        & (150 <= card.cycle)
-        & (card.cycle <= 600)
-        & ((card.wait == SHORT_WAIT) | (card.wait == LONG_WAIT))
-}
+impl Ranged for Card {
+    ghost ranges = { CardRanges };
 
-// A card of zeros, which is out of range.
-pub fn no_card() -> Card
-    ensures { result ≡ no_card }
-{
-    Card {
-        design: 0,
-        set: 0,
-        highest: 0,
-        pos: 0,
-        zav: 0,
-        tolerance: 0,
-        stop: 0,
-        deceleration: 0,
-        cycle: 0,
-        wait: 0,
+    ghost test = { card_in_range };
+
+    ghost laws = { card_laws };
+
+    #[tactic(auto, unfolding(crate::specs::Card::card_in_range))]
+    fn in_range(self) -> bool {
+        (1 <= self.design)
+            & (self.design <= TOP_SPEED)
+            & (1 <= self.set)
+            & (self.set <= TOP_SPEED)
+            & (1 <= self.highest)
+            & (self.highest <= TOP_SPEED)
+            & (1 <= self.pos)
+            & (self.pos <= TOP_SPEED)
+            & (1 <= self.zav)
+            & (self.zav <= TOP_SPEED)
+            & (self.tolerance <= 100)
+            & (self.stop <= 400)
+            & (5 <= self.deceleration)
+            & (self.deceleration <= 40)
+            & (150 <= self.cycle)
+            & (self.cycle <= 600)
+            & ((self.wait == SHORT_WAIT) | (self.wait == LONG_WAIT))
     }
 }
 

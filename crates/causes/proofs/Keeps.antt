@@ -3,7 +3,7 @@
 use Prim.Native.Nat.{ℕ, ◌≤◌}
 use native.Mathlib.Omega.{arith}
 use Rattle.numbers.proofs.Choice.{most_iff, weight_most}
-use Rattle.causes.specs.declared.Causes.{Causes}
+use Rattle.causes.specs.Causes.{Causes}
 use Rattle.causes.specs.Held.{all_held, mask_of}
 use Rattle.causes.specs.Keeping.{step_10_wrongway}
 

@@ -13,7 +13,7 @@ use Rattle.numbers.proofs.All.{all_each}
 use Rattle.numbers.proofs.Tests.{and_iff, leb_iff}
 use Rattle.record.specs.declared.Record.{Record}
 use Rattle.record.specs.declared.Keys.{Keys}
-use Rattle.causes.specs.declared.Causes.{Causes}
+use Rattle.causes.specs.Causes.{Causes}
 use Rattle.causes.specs.Held.{held_in, mask_of, if_held, listed, first_or, lowest, how_many}
 use Rattle.causes.specs.Keeping.{released, step_10_held}
 
@@ -111,10 +111,17 @@ joins_all : all_below (λ m. every (joins m)) 32 ≡ true
 unfolding all_below joins mask_of step_10_held held_in
 joins_all = refl
 
-pub joined : (m : ℕ) → m ≤ 31 → (t : Causes) (p : ℕ) (r : Record) (k : Keys) → k.vigilance ≡ false
-    → (bit_or m (mask_of t) ≡ mask_of (step_10_held (held_in m) t (released p r k))) × (bit_or m (mask_of t) ≤ 31)
-unfolding joins released
-joined m h t p r k e = rw e (right_is _ _ 31 (each (joins m) (all_each (λ m. every (joins m)) m 32 (omega arith) joins_all) t))
+module _ (m n : ℕ) (h : m ≤ 31) (t : Causes) (is : n ≡ mask_of t) where
+  join : (bit_or m n ≡ mask_of (step_10_held (held_in m) t nothing)) × (bit_or m n ≤ 31)
+  unfolding joins
+  join = rw is (right_is _ _ 31 (each (joins m) (all_each (λ m. every (joins m)) m 32 (omega arith) joins_all) t))
+
+  pub join_most : bit_or m n ≤ 31
+  join_most = join.1
+
+  pub join_is : (p : ℕ) (r : Record) (k : Keys) → k.vigilance ≡ false → bit_or m n ≡ mask_of (step_10_held (held_in m) t (released p r k))
+  unfolding released
+  join_is p r k e = rw e join.0
 
 -- ---- a mask is 0 where none is held
 some_right : ℕ → Bool

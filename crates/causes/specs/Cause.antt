@@ -1,6 +1,6 @@
 -- The five causes by name, and whether one is among causes that are held, or triggered.
 use Rattle.std.specs.Prelude.{Bool}
-use Rattle.causes.specs.declared.Causes.{Causes}
+use Rattle.causes.specs.Causes.{Causes}
 
 pub data Cause : Type 0 where
   NZ1 : Cause

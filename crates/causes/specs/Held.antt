@@ -1,7 +1,7 @@
 -- The held causes: as a mask, NZ1 bit 0 to NZ5 bit 4, and as a list; the lowest-numbered and how many.
 use Rattle.std.specs.Prelude.{ℕ, ◌+◌, Bool, cond, List, [], ◌∷◌, length}
 use Rattle.numbers.specs.Bits.{bit_on}
-use Rattle.causes.specs.declared.Causes.{Causes}
+use Rattle.causes.specs.Causes.{Causes}
 
 -- the weights of the causes in the mask, from bit 0
 abbrev pub nz1 : ℕ

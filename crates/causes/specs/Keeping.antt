@@ -2,7 +2,7 @@
 use Rattle.std.specs.Prelude.{ℕ, Bool, not, ◌&&◌, ◌||◌, cond, leb, eqb}
 use Rattle.record.specs.declared.Record.{Record}
 use Rattle.record.specs.declared.Keys.{Keys}
-use Rattle.causes.specs.declared.Causes.{Causes}
+use Rattle.causes.specs.Causes.{Causes}
 
 -- a vigilance press lets go NZ1, NZ3 if v = 0; NZ2 if v ≤ P; NZ4 if v = 0 and remote stop off; NZ5 always
 unfoldable pub released : ℕ → Record → Keys → Causes

@@ -1,3 +1,4 @@
+pub mod Causes
 pub mod Held
 pub mod Keeping
 pub mod Cause

@@ -2,21 +2,21 @@
 #![tactic(auto)]
 
 ghost use Rattle.std.specs.Prelude.{◌≡◌, ◌≤◌};
-ghost use Rattle.card.specs.Card.{CardRanges};
-ghost use Rattle.reading.specs.Speed.{top_speed};
 ghost use Rattle.record.specs.Codes.{clear};
-ghost use Rattle.record.specs.Record.{RecordRanges};
 ghost use Rattle.codes.specs.Ranges.{longest_gap, most_raise, CodesRanges, codes_in_range};
+ghost use Rattle.codes.specs.Laws.{codes_laws};
 ghost use Rattle.codes.specs.Target.{target};
 ghost use Rattle.codes.specs.Gap.{interrupted_next, gap_next};
 ghost use Rattle.codes.specs.Plus.{raise_by_code, step_3_plus, codes_next};
 
 use card::Card;
+use ranges::{InRange, Ranged};
+use reading::Speed;
 use record::{Keys, Record};
 
-// The last code, the gap and the raise.
+// The last code, the gap and the raise. A part of the desk that C reads and writes: a code is a byte there, in range or not.
 #[repr(C)]
-#[derive(Clone, Copy)]
+#[derive(Clone, Copy, Default, PartialEq, Eq)]
 pub struct Codes {
     // the last code
     pub last: u8,
@@ -31,115 +31,109 @@ const LONGEST_GAP: u8 = 51;
 
 const MOST_RAISE: u8 = 4;
 
-pub fn codes_in_range(codes: Codes) -> bool
-    ensures { result ≡ codes_in_range codes }
-{
-    (codes.last <= record::CLEAR)
-        & (codes.interrupted <= record::CLEAR)
-        & (codes.gap <= LONGEST_GAP)
-        & (codes.raise <= MOST_RAISE)
+impl Ranged for Codes {
+    ghost ranges = { CodesRanges };
+
+    ghost test = { codes_in_range };
+
+    ghost laws = { codes_laws };
+
+    fn in_range(self) -> bool {
+        (self.last <= record::CLEAR)
+            & (self.interrupted <= record::CLEAR)
+            & (self.gap <= LONGEST_GAP)
+            & (self.raise <= MOST_RAISE)
+    }
 }
 
 // T of a code.
 #[tactic(auto, unfolding(crate::specs::Target::target))]
-pub fn target(card: Card, code: u8, raise: u8) -> u16
-    requires { CardRanges card × (raise ≤ most_raise) }
-    ensures { (result ≡ target card code raise) × (result ≤ top_speed) }
+pub fn target(card: InRange<Card>, code: u8, raise: u8) -> Speed
+    requires { raise ≤ most_raise }
+    ensures { result.tenths ≡ target card.it code raise }
 {
-    if (code == record::NONE) | (code == record::WARNING) {
-        return 1200;
-    }
-    if code == record::STOP {
-        return card.stop;
-    }
-    if code == record::FORTY {
-        return 400 + 200 * (raise as u16);
-    }
-    1600
+    let tenths = match code {
+        record::NONE | record::WARNING => 1200,
+        record::STOP => card.it.stop,
+        record::FORTY => 400 + 200 * (raise as u16),
+        _ => 1600,
+    };
+    Speed { tenths }
 }
 
 // Step 2: k.
 #[tactic(auto, unfolding(crate::specs::Gap::interrupted_next))]
-fn interrupted_next(codes: Codes, reading: Record) -> u8
-    requires { CodesRanges codes }
-    ensures { (result ≡ interrupted_next codes reading) × (result ≤ clear) }
+fn interrupted_next(codes: InRange<Codes>, reading: Record) -> u8
+    ensures { (result ≡ interrupted_next codes.it reading) × (result ≤ clear) }
 {
-    if reading.code == codes.last {
-        return codes.interrupted;
+    if reading.code == codes.it.last {
+        return codes.it.interrupted;
     }
     if reading.code == record::NONE {
-        return codes.last;
+        return codes.it.last;
     }
-    if codes.last == record::NONE {
+    if codes.it.last == record::NONE {
         return 0;
     }
-    codes.interrupted
+    codes.it.interrupted
 }
 
 // Step 2: g.
 #[tactic(auto, unfolding(crate::specs::Gap::gap_next))]
-fn gap_next(codes: Codes, reading: Record) -> u8
-    requires { CodesRanges codes }
-    ensures { (result ≡ gap_next codes reading) × (result ≤ longest_gap) }
+fn gap_next(codes: InRange<Codes>, reading: Record) -> u8
+    ensures { (result ≡ gap_next codes.it reading) × (result ≤ longest_gap) }
 {
-    if reading.code == codes.last {
+    if reading.code == codes.it.last {
         if reading.code == record::NONE {
-            if codes.gap < LONGEST_GAP {
-                return codes.gap + 1;
-            }
-            return LONGEST_GAP;
+            return LONGEST_GAP.min(codes.it.gap + 1);
         }
-        return codes.gap;
+        return codes.it.gap;
     }
     if reading.code == record::NONE {
         return 1;
     }
-    if codes.last == record::NONE {
+    if codes.it.last == record::NONE {
         return 0;
     }
-    codes.gap
+    codes.it.gap
 }
 
 #[tactic(auto, unfolding(crate::specs::Plus::raise_by_code))]
-fn raise_by_code(codes: Codes, reading: Record) -> u8
-    requires { CodesRanges codes }
-    ensures { (result ≡ raise_by_code codes reading) × (result ≤ most_raise) }
+fn raise_by_code(codes: InRange<Codes>, reading: Record) -> u8
+    ensures { (result ≡ raise_by_code codes.it reading) × (result ≤ most_raise) }
 {
-    if reading.code == codes.last {
-        return codes.raise;
+    if reading.code == codes.it.last {
+        return codes.it.raise;
     }
     0
 }
 
 // Step 3.
 #[tactic(auto, unfolding(crate::specs::Plus::step_3_plus))]
-fn step_3_plus(codes: Codes, reading: Record, keys: Keys) -> u8
-    requires { CodesRanges codes }
-    ensures { (result ≡ step_3_plus codes reading keys) × (result ≤ most_raise) }
+fn step_3_plus(codes: InRange<Codes>, reading: Record, keys: Keys) -> u8
+    ensures { (result ≡ step_3_plus codes.it reading keys) × (result ≤ most_raise) }
 {
     let raise = raise_by_code(codes, reading);
-    if keys.plus & (reading.code == record::FORTY) {
-        if raise < MOST_RAISE {
-            return raise + 1;
-        }
-        return raise;
+    if keys.plus & (reading.code == record::FORTY) & (raise < MOST_RAISE) {
+        return raise + 1;
     }
     raise
 }
 
 // Steps 2 and 3: the codes that the next tick starts from.
 #[tactic(auto, using(crate::proofs::Keeps::codes_next_ranges), unfolding(crate::specs::Plus::codes_next))]
-pub fn codes_next(codes: Codes, reading: Record, keys: Keys) -> Codes
-    requires { CodesRanges codes × RecordRanges reading }
-    ensures { (result ≡ codes_next codes reading keys) × CodesRanges result }
+pub fn codes_next(codes: InRange<Codes>, reading: InRange<Record>, keys: Keys) -> InRange<Codes>
+    ensures { result.it ≡ codes_next codes.it reading.it keys }
 {
-    let interrupted = interrupted_next(codes, reading);
-    let gap = gap_next(codes, reading);
-    let raise = step_3_plus(codes, reading, keys);
-    Codes {
-        last: reading.code,
-        interrupted: interrupted,
-        gap: gap,
-        raise: raise,
+    let interrupted = interrupted_next(codes, reading.it);
+    let gap = gap_next(codes, reading.it);
+    let raise = step_3_plus(codes, reading.it, keys);
+    InRange {
+        it: Codes {
+            last: reading.it.code,
+            interrupted,
+            gap,
+            raise,
+        },
     }
 }

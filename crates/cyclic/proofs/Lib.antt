@@ -1,2 +1,2 @@
-pub mod Ranges
 pub mod Keeps
+pub mod Numbers

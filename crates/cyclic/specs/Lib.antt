@@ -1,2 +1,4 @@
 pub mod Ranges
+pub mod Laws
+pub mod Kind
 pub mod Cyclic

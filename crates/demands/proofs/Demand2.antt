@@ -12,16 +12,17 @@ use borrow.Author.Tests.{eq-eqb}
 use Rattle.numbers.proofs.All.{all_each}
 use Rattle.refusal.proofs.First.{both_zero}
 use Rattle.layout.specs.Layout.{written}
-use Rattle.reading.specs.Speed.{speed_of, speed_refusal}
-use Rattle.reading.specs.Pressure.{pressure_of, pressure_refusal}
+use Rattle.refusal.specs.Number.{number_of}
+use Rattle.reading.specs.Speed.{speed_of}
+use Rattle.reading.specs.Pressure.{pressure_of}
 use Rattle.card.specs.declared.Card.{Card}
 use Rattle.card.specs.Card.{CardRanges, card_in_range}
-use Rattle.card.proofs.Ranges.{card_ranges}
+use Rattle.card.specs.Laws.{card_ranges}
 use Rattle.record.specs.declared.Record.{Record}
 use Rattle.record.specs.declared.Sample.{Sample}
 use Rattle.record.specs.Record.{record_in_range, record_at}
 use Rattle.record.specs.Sample.{sample_refusal, sample_record}
-use Rattle.record.proofs.Ranges.{record_ranges}
+use Rattle.record.specs.Laws.{record_ranges}
 use Rattle.record.proofs.Refusal.{sample_in_range}
 use Rattle.state.proofs.Ranges.{fresh_ranges}
 use Rattle.rules.specs.Tick.{advance}
@@ -33,6 +34,7 @@ use Rattle.journal.proofs.Room.{room}
 use Rattle.desk.specs.declared.Desk.{Desk}
 use Rattle.desk.specs.Desk.{DeskRanges, desk_in_range}
 use Rattle.desk.specs.Calls.{open_outcome, tick_refusal, tick_outcome, tick_journal, back_refusal, back_outcome, restart_outcome}
+use Rattle.desk.specs.Laws.{desk_ranges, ranges_desk}
 use Rattle.desk.proofs.Calls as Calls
 use Rattle.why.proofs.Calls as Why
 use Rattle.why.proofs.Promise.{promised}
@@ -54,7 +56,7 @@ use Rattle.demands.proofs.Refusals.{open_first, tick_first, back_first, restart_
 use Rattle.demands.proofs.Numbers.{tick_number_lem, back_number, read_number, host_accepted, host_number_lem}
 
 in_range : (d : Desk) → DeskRanges d → DeskFits d
-in_range d h = (desk_fits d).0 (Calls.ranges_desk d h)
+in_range d h = (desk_fits d).0 (ranges_desk d h)
 
 -- ---- opening and restart
 fresh_fits : (card : Card) → CardRanges card → DeskFits (fresh_of card)
@@ -73,15 +75,15 @@ unfolding restart_outcome
 restart_yes d z = go (desk_in_range d) refl
   where
     go : (b : Bool) → desk_in_range d ≡ b → Begins d.card (restart_outcome d)
-    go true e = rw e (record { desk = refl; answer = refl; in_range = fresh_fits d.card (Calls.desk_ranges d e).card })
+    go true e = rw e (record { desk = refl; answer = refl; in_range = fresh_fits d.card (desk_ranges d e).card })
     go false e = absurd (omega (arith, rw e at z))
 
 -- ---- the tick
 record_of : (x : Sample) → sample_refusal x ≡ 0 → RecordOf x (sample_record x)
 unfolding sample_refusal sample_record
 record_of x z =
-    let speed = both_zero (speed_refusal (speed_of x.speed)) _ z in
-    let pressure = both_zero (pressure_refusal (pressure_of x.pressure)) _ speed.1 in
+    let speed = both_zero (number_of (speed_of x.speed)) _ z in
+    let pressure = both_zero (number_of (pressure_of x.pressure)) _ speed.1 in
     record {
       v = (speed_first x.speed).1 speed.0;
       band = (pressure_first x.pressure).1 pressure.0;
@@ -103,7 +105,7 @@ module _ (d : Desk) (x : Sample) (J : List ℕ) (z : tick_refusal d x J ≡ 0) w
   tick_gives : Gives d.card (d.n + 1) (advance d.card d.state r) (tick_outcome d x J)
   tick_gives =
       let t = Calls.tick_taken _ _ _ z in
-      let good = Calls.desk_ranges d t.desk.desk_good in
+      let good = desk_ranges d t.desk.desk_good in
       let left = room _ _ t.below in
       let fine = record_ranges _ (sample_in_range x t.fine) in
       rw (Calls.tick_yes d x J z).0
@@ -119,7 +121,7 @@ back_gives : (d : Desk) (k : ℕ) (J : List ℕ) → back_refusal d k J ≡ 0
 unfolding records
 back_gives d k J z =
     let t = Calls.back_taken d k J z in
-    let good = Calls.desk_ranges d t.desk.desk_good in
+    let good = desk_ranges d t.desk.desk_good in
     rw (Calls.back_yes d k J z)
     (record {
       desk = refl;

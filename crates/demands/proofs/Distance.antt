@@ -20,7 +20,7 @@ use Rattle.record.specs.Record.{RecordRanges}
 use Rattle.record.specs.Modes.{pre}
 use Rattle.record.specs.Flags.{keys_of}
 use Rattle.record.specs.Sample.{sample_record}
-use Rattle.record.proofs.Ranges.{record_ranges}
+use Rattle.record.specs.Laws.{record_ranges}
 use Rattle.record.proofs.Refusal.{sample_in_range}
 use Rattle.codes.specs.Target.{target}
 use Rattle.signal.specs.declared.Curve.{Curve}
@@ -44,6 +44,7 @@ use Rattle.rules.proofs.Curve.{cleared, start_after, driven_after, target_after,
 use Rattle.desk.specs.declared.Desk.{Desk}
 use Rattle.desk.specs.declared.Outcome.{Outcome}
 use Rattle.desk.specs.Desk.{DeskRanges}
+use Rattle.desk.specs.Laws.{desk_ranges}
 use Rattle.desk.proofs.Calls as Calls
 use Rattle.demands.specs.Distance.{SameCode, NewCurve, Distance}
 use Rattle.demands.proofs.Functions.{functions, exported, exported_same, ticks_is}
@@ -227,11 +228,11 @@ module _ (d : Desk) (x : Sample) (J : List ℕ) (o : Outcome) (K : List ℕ) (f 
   taken =
       let zero = sym (tick_number_lem d x J) ∙ ap (λ out. out.refusal) (sym (ticks_is d x J o K f).0) ∙ z in
       let t = Calls.tick_taken _ _ _ zero in
-      (Calls.desk_ranges d t.desk.desk_good, record_ranges _ (sample_in_range x t.fine))
+      (desk_ranges d t.desk.desk_good, record_ranges _ (sample_in_range x t.fine))
 
 pub distance : Distance functions
 distance = record {
-  largest = λ d fits T p. let good = Calls.desk_ranges d ((desk_fits d).1 fits) in
+  largest = λ d fits T p. let good = desk_ranges d ((desk_fits d).1 fits) in
       value_largest d.card d.state.signal.curve T d.state.signal.curve.driven good.state.signal.curve p;
   above = λ d x J o K f z. let r = taken d x J o K f z in
       let g = ((demand2.tick d x J o K f).1 z).2 in

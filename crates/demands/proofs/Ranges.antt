@@ -11,16 +11,16 @@ use borrow.Author.Tests.{ltb-true, lt-ltb, eqb-true, eq-eqb}
 use Rattle.numbers.proofs.Tests.{and_iff, leb_iff}
 use Rattle.card.specs.declared.Card.{Card}
 use Rattle.card.specs.Card.{CardRanges, card_in_range}
-use Rattle.card.proofs.Ranges.{card_ranges, ranges_card}
+use Rattle.card.specs.Laws.{card_ranges, ranges_card}
 use Rattle.record.specs.declared.Record.{Record}
 use Rattle.record.specs.declared.Sample.{Sample}
 use Rattle.record.specs.Record.{RecordRanges, record_in_range}
 use Rattle.record.specs.Sample.{sample_record}
-use Rattle.record.proofs.Ranges.{record_ranges, ranges_record}
+use Rattle.record.specs.Laws.{record_ranges, ranges_record}
 use Rattle.record.proofs.Refusal.{sample_v, sample_band}
 use Rattle.desk.specs.declared.Desk.{Desk}
 use Rattle.desk.specs.Desk.{DeskRanges, desk_in_range}
-use Rattle.desk.proofs.Calls.{desk_ranges, ranges_desk}
+use Rattle.desk.specs.Laws.{desk_ranges, ranges_desk}
 use Rattle.file.specs.File.{header_good}
 use Rattle.demands.specs.Ranges.{CardFits, RecordFits, DeskFits}
 use Rattle.demands.specs.Reasons.{SwitchesFit, HeaderFits}

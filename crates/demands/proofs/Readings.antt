@@ -12,12 +12,12 @@ use lib.Ieee.Fits.{down_pos}
 use borrow.Author.Tests.{leb-true, leb-false, ltb-true, ltb-false, lt-ltb}
 use Rattle.numbers.proofs.Tests.{and_iff}
 use Rattle.reading.specs.Number.{quantity}
-use Rattle.reading.specs.declared.Speed.{Speed}
-use Rattle.reading.specs.declared.Speed.TheVariants.{Tenths, Refused}
-use Rattle.reading.specs.declared.Pressure.{Pressure}
-use Rattle.reading.specs.declared.Pressure.TheVariants.{Band, Refused as Outside}
-use Rattle.reading.specs.Speed.{rounded, speed_at, speed_of, speed_refusal, speed_value}
-use Rattle.reading.specs.Pressure.{band_at, pressure_at, pressure_of, pressure_refusal, pressure_band}
+use Rattle.std.proofs.Common.{Result, Ok, Err}
+use Rattle.refusal.specs.declared.Refusal.{Refusal}
+use Rattle.refusal.specs.declared.Refusal.TheVariants.{BadSpeed as Fast, BadPressure as Outside}
+use Rattle.refusal.specs.Number.{number, number_of, value_of}
+use Rattle.reading.specs.Speed.{rounded, speed_at, speed_of}
+use Rattle.reading.specs.Pressure.{band_at, pressure_at, pressure_of}
 use Rattle.demands.specs.Reasons.{none, reason, FloorOf, SpeedIs, BadSpeed, BadPressure, BandOf, BandIs}
 use Rattle.demands.proofs.Exactly.{First}
 
@@ -47,10 +47,10 @@ module _ (minus : Bool) (m n d : ℕ) (p : 0 < d) where
   Below = (minus ≡ true) × (0 < m)
 
   speed_by : (b : Bool) → below minus m ≡ b → (t : Bool) → leb (rounded n d) 2500 ≡ t
-      → (s : Speed) → s ≡ cond b Refused (cond t (Tenths (rounded n d)) Refused)
-      → First (speed_refusal s) (reason 1 (Below ⊎ ((v : ℕ) × (2500 < v) × FloorOf n d v)) none)
-      × (speed_refusal s ≡ 0 → FloorOf n d (speed_value s))
-  unfolding First speed_refusal speed_value
+      → (s : Result ℕ Refusal) → s ≡ cond b (Err Fast) (cond t (Ok (rounded n d)) (Err Fast))
+      → First (number_of s) (reason 1 (Below ⊎ ((v : ℕ) × (2500 < v) × FloorOf n d v)) none)
+      × (number_of s ≡ 0 → FloorOf n d (value_of 0 s))
+  unfolding First number number_of value_of
   speed_by true e t q s is = rw is (inl (inl (below_is minus m e), refl), λ z. absurd (omega arith))
   speed_by false e false q s is = rw is (inl (inr (rounded n d, leb-false _ _ q, floor_is n d p), refl), λ z. absurd (omega arith))
   speed_by false e true q s is =
@@ -61,9 +61,9 @@ module _ (minus : Bool) (m n d : ℕ) (p : 0 < d) where
       rw is (inr (⊎_elim (not_below minus m e) fast, refl), λ z. f)
 
   pressure_by : (b : Bool) → below minus m ≡ b → (t : Bool) → leb n (10 * d) ≡ t
-      → (s : Pressure) → s ≡ cond b Outside (cond t (Band (band_at n d)) Outside)
-      → First (pressure_refusal s) (reason 2 (Below ⊎ (10 * d < n)) none) × (pressure_refusal s ≡ 0 → BandOf n d (pressure_band s))
-  unfolding First pressure_refusal pressure_band band_at
+      → (s : Result ℕ Refusal) → s ≡ cond b (Err Outside) (cond t (Ok (band_at n d)) (Err Outside))
+      → First (number_of s) (reason 2 (Below ⊎ (10 * d < n)) none) × (number_of s ≡ 0 → BandOf n d (value_of 0 s))
+  unfolding First number number_of value_of band_at
   pressure_by true e t q s is = rw is (inl (inl (below_is minus m e), refl), λ z. absurd (omega arith))
   pressure_by false e false q s is = rw is (inl (inr (leb-false _ _ q), refl), λ z. absurd (omega arith))
   pressure_by false e true q s is =
@@ -77,16 +77,16 @@ module _ (minus : Bool) (m n d : ℕ) (p : 0 < d) where
       band_by false e false f = inr (inr (refl, ltb-false _ _ f))
 
 -- ---- any float
-pub speed_first : (x : Float) → First (speed_refusal (speed_of x)) (reason 1 (BadSpeed x) none)
-    × (speed_refusal (speed_of x) ≡ 0 → SpeedIs x (speed_value (speed_of x)))
-unfolding First speed_refusal speed_of quantity speed_at BadSpeed SpeedIs
+pub speed_first : (x : Float) → First (number_of (speed_of x)) (reason 1 (BadSpeed x) none)
+    × (number_of (speed_of x) ≡ 0 → SpeedIs x (value_of 0 (speed_of x)))
+unfolding First number number_of speed_of quantity speed_at BadSpeed SpeedIs
 speed_first nan = (inl (tt, refl), λ z. absurd (omega arith))
 speed_first (inf minus) = (inl (tt, refl), λ z. absurd (omega arith))
 speed_first (fin minus m e) = speed_by minus m (m * up e) (down e) (down_pos e) (below minus m) refl (leb (rounded (m * up e) (down e)) 2500) refl _ refl
 
-pub pressure_first : (x : Float) → First (pressure_refusal (pressure_of x)) (reason 2 (BadPressure x) none)
-    × (pressure_refusal (pressure_of x) ≡ 0 → BandIs x (pressure_band (pressure_of x)))
-unfolding First pressure_refusal pressure_of quantity pressure_at BadPressure BandIs
+pub pressure_first : (x : Float) → First (number_of (pressure_of x)) (reason 2 (BadPressure x) none)
+    × (number_of (pressure_of x) ≡ 0 → BandIs x (value_of 0 (pressure_of x)))
+unfolding First number number_of pressure_of quantity pressure_at BadPressure BandIs
 pressure_first nan = (inl (tt, refl), λ z. absurd (omega arith))
 pressure_first (inf minus) = (inl (tt, refl), λ z. absurd (omega arith))
 pressure_first (fin minus m e) = pressure_by minus m (m * up e) (down e) (down_pos e) (below minus m) refl (leb (m * up e) (10 * down e)) refl _ refl

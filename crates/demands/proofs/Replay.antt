@@ -12,12 +12,12 @@ use lib.Seq.{length-take-le}
 use Rattle.refusal.specs.Refusal.{back_too_far}
 use Rattle.card.specs.declared.Card.{Card}
 use Rattle.card.specs.Card.{card_in_range}
-use Rattle.card.proofs.Ranges.{card_ranges}
+use Rattle.card.specs.Laws.{card_ranges}
 use Rattle.record.specs.declared.Record.{Record}
 use Rattle.record.specs.declared.Sample.{Sample}
 use Rattle.record.specs.Record.{record_width, record_in_range, no_record, put_record}
 use Rattle.record.specs.Sample.{sample_refusal, sample_record}
-use Rattle.record.proofs.Ranges.{record_ranges}
+use Rattle.record.specs.Laws.{record_ranges}
 use Rattle.record.proofs.Bytes.{put_length, put_before, put_back}
 use Rattle.record.proofs.Refusal.{sample_in_range, sample_v}
 use Rattle.rules.specs.declared.AfterTick.{AfterTick}
@@ -31,6 +31,7 @@ use Rattle.desk.specs.Desk.{desk_in_range, fresh_desk}
 use Rattle.desk.specs.Calls.{refused, accepted, open_outcome, tick_refusal, tick_outcome, tick_journal, back_refusal, back_outcome, restart_outcome}
 use Rattle.numbers.proofs.All.{each_all}
 use Rattle.journal.proofs.Room.{room}
+use Rattle.desk.specs.Laws.{ranges_desk}
 use Rattle.desk.proofs.Calls as Calls
 use Rattle.why.specs.Why.{rebuilt, why_refusal, why_outcome}
 use Rattle.why.proofs.Calls as Why
@@ -150,7 +151,7 @@ module _ (card : Card) (L : ℕ) (ok : card_in_range card ≡ true) (s : Drive) 
   unfolding capacity
   desk_good =
       rw v.is
-      (Calls.ranges_desk _
+      (ranges_desk _
       (record {
         card = card_ranges card ok;
         n_most = let h = v.fits in omega arith;

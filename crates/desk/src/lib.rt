@@ -1,19 +1,23 @@
 // The desk: opened with a card, then ticks, steps back and restarts. It goes in and comes back by value; the journal is lent.
 #![tactic(auto)]
 
-ghost use Rattle.std.specs.Prelude.{◌≡◌, ◌+◌, ◌≤◌, length};
-ghost use Rattle.record.specs.Times.{most_ticks};
-ghost use Rattle.desk.specs.Desk.{desk_in_range, fresh_desk, no_desk};
+ghost use Rattle.std.specs.Prelude.{◌≡◌, ◌+◌, ◌-◌, IfOk};
+ghost use Rattle.refusal.specs.Number.{number, number_of};
+ghost use Rattle.record.specs.Sample.{sample_refusal, sample_record};
+ghost use Rattle.desk.specs.Desk.{DeskRanges, desk_in_range};
+ghost use Rattle.desk.specs.Laws.{desk_laws};
 ghost use Rattle.desk.specs.Calls.{refused, begun, accepted, open_outcome, desk_refusal};
 ghost use Rattle.desk.specs.Calls.{tick_refusal_of, tick_outcome, tick_journal, back_refusal, back_outcome, restart_outcome};
 
 use card::Card;
-use record::{RECORD_WIDTH, Sample};
+use ranges::{InRange, Ranged};
+use record::{RECORD_WIDTH, Record, Sample};
+use refusal::Refusal;
 use rules::{AfterTick, Answer};
 use state::State;
 
 #[repr(C)]
-#[derive(Clone, Copy)]
+#[derive(Clone, Copy, Default, PartialEq, Eq)]
 pub struct Desk {
     pub card: Card,
     // the ticks that the journal holds
@@ -22,6 +26,7 @@ pub struct Desk {
 }
 
 // What a call returns: the new desk, the answer, and the number of the refusal, 0 where the call was accepted.
+// Not a `Result`: C reads this struct (`foldharbor_outcome`).
 #[repr(C)]
 #[derive(Clone, Copy)]
 pub struct Outcome {
@@ -30,47 +35,41 @@ pub struct Outcome {
     pub refusal: u8,
 }
 
-#[tactic(auto, unfolding(crate::specs::Desk::desk_in_range))]
-fn desk_in_range(desk: Desk) -> bool
-    ensures { result ≡ desk_in_range desk }
-{
-    card::card_in_range(desk.card)
-        & (desk.n <= record::MOST_TICKS)
-        & state::state_in_range(desk.state)
-}
+impl Ranged for Desk {
+    ghost ranges = { DeskRanges };
 
-fn fresh_desk(card: Card) -> Desk
-    ensures { result ≡ fresh_desk card }
-{
-    let state = state::fresh_state();
-    Desk {
-        card: card,
-        n: 0,
-        state: state,
+    ghost test = { desk_in_range };
+
+    ghost laws = { desk_laws };
+
+    #[tactic(auto, unfolding(crate::specs::Desk::desk_in_range))]
+    fn in_range(self) -> bool {
+        self.card.in_range() & (self.n <= record::MOST_TICKS) & self.state.in_range()
     }
 }
 
-fn no_desk() -> Desk
-    ensures { result ≡ no_desk }
+fn refused(desk: Desk, refusal: Refusal) -> Outcome
+    ensures { result ≡ refused desk (number refusal) }
 {
-    let card = card::no_card();
-    let mut state = state::fresh_state();
-    state.mode = 0;
-    Desk {
-        card: card,
-        n: 0,
-        state: state,
-    }
-}
-
-fn refused(desk: Desk, number: u8) -> Outcome
-    ensures { result ≡ refused desk number }
-{
-    let answer = rules::no_answer();
     Outcome {
-        desk: desk,
-        answer: answer,
-        refusal: number,
+        desk,
+        answer: Answer::default(),
+        refusal: u8::from(refusal),
+    }
+}
+
+// A desk of n ticks, in the state and with the answer that a tick gave.
+fn accepted(card: Card, n: u16, after: AfterTick) -> Outcome
+    ensures { result ≡ accepted card n after }
+{
+    Outcome {
+        desk: Desk {
+            card,
+            n,
+            state: after.state,
+        },
+        answer: after.answer,
+        refusal: 0,
     }
 }
 
@@ -78,106 +77,67 @@ fn refused(desk: Desk, number: u8) -> Outcome
 fn begun(card: Card) -> Outcome
     ensures { result ≡ begun card }
 {
-    let desk = fresh_desk(card);
-    let answer = rules::no_answer();
-    Outcome {
-        desk: desk,
-        answer: answer,
-        refusal: 0,
-    }
+    let state = state::fresh_state().it;
+    let answer = Answer::default();
+    accepted(card, 0, AfterTick { state, answer })
 }
 
-// The desk a tick later.
-fn ticked(desk: Desk, after: AfterTick) -> Outcome
-    requires { desk.n ≤ most_ticks }
-    ensures { result ≡ accepted desk.card (desk.n + 1) after }
+// 5, 6: whether the desk, with a journal of so many bytes, is fit for a tick, a step back or why.
+#[tactic(auto, using(crate::proofs::Calls::of_desk), unfolding(refusal::specs::Number::number_of, refusal::specs::Number::number))]
+pub fn fit_desk(desk: Desk, length: usize) -> Result<InRange<Desk>, Refusal>
+    ensures refusal { number_of result ≡ desk_refusal desk length }
+    ensures fit { IfOk result (λ fit. fit.it ≡ desk) }
 {
-    let card = desk.card;
-    let next = after.state;
-    let shown = after.answer;
-    Outcome {
-        desk: Desk {
-            card: card,
-            n: desk.n + 1,
-            state: next,
-        },
-        answer: shown,
-        refusal: 0,
-    }
-}
-
-// The desk as its first n records rebuild it.
-fn gone_back(desk: Desk, n: u16, after: AfterTick) -> Outcome
-    ensures { result ≡ accepted desk.card n after }
-{
-    let card = desk.card;
-    let rebuilt = after.state;
-    let answer = after.answer;
-    Outcome {
-        desk: Desk {
-            card: card,
-            n: n,
-            state: rebuilt,
-        },
-        answer: answer,
-        refusal: 0,
-    }
-}
-
-// 5, 6: `length` is the journal's.
-#[tactic(auto, unfolding(crate::specs::Calls::desk_refusal))]
-pub fn desk_refusal(desk: Desk, length: usize) -> u8
-    ensures { result ≡ desk_refusal desk length }
-{
-    if !desk_in_range(desk) {
-        return refusal::BAD_DESK;
-    }
+    let fit = InRange::of(desk).ok_or(Refusal::BadDesk)?;
     if length < RECORD_WIDTH * (desk.n as usize) {
-        return refusal::SHORT_JOURNAL;
+        return Err(Refusal::ShortJournal);
     }
-    0
+    Ok(fit)
 }
 
-// The number of a tick's refusal: `sample` is that of its sample, `length` the journal's.
-#[tactic(auto, unfolding(crate::specs::Calls::tick_refusal_of, refusal::specs::Refusal::first_refusal))]
-fn tick_refusal_of(desk: Desk, sample: u8, length: usize) -> u8
-    ensures { result ≡ tick_refusal_of desk sample length }
+// The desk and the record that a tick goes by; the last refusals are the sample's.
+#[tactic(auto, using(crate::proofs::Calls::of_tick), unfolding(refusal::specs::Number::number_of, refusal::specs::Number::number))]
+fn fit_tick(
+    desk: Desk,
+    sample: Sample,
+    length: usize,
+) -> Result<(InRange<Desk>, InRange<Record>), Refusal>
+    ensures refusal { number_of result ≡ tick_refusal_of desk (sample_refusal sample) length }
+    ensures fit { IfOk result (λ fit. (fit.0.it ≡ desk) × (fit.1.it ≡ sample_record sample)) }
 {
-    let first = desk_refusal(desk, length);
-    if first != 0 {
-        return first;
-    }
+    let fit = fit_desk(desk, length)?;
     if journal::capacity(length) <= desk.n as usize {
-        return refusal::FULL_JOURNAL;
+        return Err(Refusal::FullJournal);
     }
-    sample
+    let reading = record::take_sample(sample)?;
+    Ok((fit, reading))
 }
 
-#[tactic(auto, unfolding(crate::specs::Calls::back_refusal, refusal::specs::Refusal::first_refusal), using(crate::proofs::Calls::desk_taken))]
-fn back_refusal(desk: Desk, k: u32, journal: &[u8]) -> u8
-    ensures { result ≡ back_refusal desk k journal.now }
+// The desk that a step back goes by, and how many ticks are left.
+#[tactic(auto, using(crate::proofs::Calls::of_back), unfolding(refusal::specs::Number::number_of, refusal::specs::Number::number))]
+fn fit_back(desk: Desk, k: u32, journal: &[u8]) -> Result<(InRange<Desk>, u16), Refusal>
+    ensures refusal { number_of result ≡ back_refusal desk k journal.now }
+    ensures fit { IfOk result (λ fit. (fit.0.it ≡ desk) × (fit.1 ≡ desk.n - k)) }
 {
-    let first = desk_refusal(desk, journal.len());
-    if first != 0 {
-        return first;
-    }
+    let fit = fit_desk(desk, journal.len())?;
     let n = desk.n as u32;
     if n < k {
-        return refusal::BACK_TOO_FAR;
+        return Err(Refusal::BackTooFar);
     }
-    if !journal::all_in_range(journal, (n - k) as usize) {
-        return refusal::BAD_RECORD;
+    let left = (n - k) as u16;
+    if !journal::all_in_range(journal, left as usize) {
+        return Err(Refusal::BadRecord);
     }
-    0
+    Ok((fit, left))
 }
 
 impl Desk {
-    #[tactic(auto, unfolding(crate::specs::Calls::open_outcome))]
+    #[tactic(auto, unfolding(crate::specs::Calls::open_outcome, refusal::specs::Number::number))]
     pub fn open(card: Card) -> Outcome
         ensures { result ≡ open_outcome card }
     {
-        if !card::card_in_range(card) {
-            return refused(no_desk(), refusal::BAD_CARD);
+        if !card.in_range() {
+            return refused(Desk::default(), Refusal::BadCard);
         }
         begun(card)
     }
@@ -186,38 +146,37 @@ impl Desk {
         ensures outcome { result ≡ tick_outcome self sample journal.old }
         ensures journal { journal.new ≡ tick_journal self sample journal.old }
     {
-        let taken = record::take_sample(sample);
-        let refusal = tick_refusal_of(self, taken.refusal, journal.len());
-        if refusal != 0 {
-            return refused(self, refusal);
+        match fit_tick(self, sample, journal.len()) {
+            Err(refusal) => refused(self, refusal),
+            Ok((fit, reading)) => {
+                record::put_record(journal, RECORD_WIDTH * (self.n as usize), reading.it);
+                let card = InRange { it: fit.it.card };
+                let state = InRange { it: fit.it.state };
+                let after = rules::advance(card, state, reading);
+                accepted(self.card, self.n + 1, after)
+            }
         }
-        let card = self.card;
-        let state = self.state;
-        let n = self.n as usize;
-        let reading = taken.record;
-        record::put_record(journal, RECORD_WIDTH * n, reading);
-        ticked(self, rules::advance(card, state, reading))
     }
 
-    #[tactic(auto, unfolding(crate::specs::Calls::back_outcome), using(crate::proofs::Calls::back_taken))]
     pub fn step_back(self, k: u32, journal: &[u8]) -> Outcome
         ensures { result ≡ back_outcome self k journal.now }
     {
-        let refusal = back_refusal(self, k, journal);
-        if refusal != 0 {
-            return refused(self, refusal);
+        match fit_back(self, k, journal) {
+            Err(refusal) => refused(self, refusal),
+            Ok((fit, left)) => {
+                let card = InRange { it: fit.it.card };
+                let after = journal::rebuilt(card, journal, left as usize);
+                accepted(self.card, left, after)
+            }
         }
-        let card = self.card;
-        let m = self.n - (k as u16);
-        gone_back(self, m, journal::rebuilt(card, journal, m as usize))
     }
 
-    #[tactic(auto, unfolding(crate::specs::Calls::restart_outcome))]
+    #[tactic(auto, unfolding(crate::specs::Calls::restart_outcome, refusal::specs::Number::number))]
     pub fn restart(self) -> Outcome
         ensures { result ≡ restart_outcome self }
     {
-        if !desk_in_range(self) {
-            return refused(self, refusal::BAD_DESK);
+        if !self.in_range() {
+            return refused(self, Refusal::BadDesk);
         }
         begun(self.card)
     }

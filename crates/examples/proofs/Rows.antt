@@ -4,7 +4,8 @@ use mathlib.Core.Path.{◌≡◌, refl}
 use mathlib.Core.List.{map}
 use lib.Ieee.{of_bits}
 use Rattle.reading.specs.Number.{quantity}
-use Rattle.reading.specs.Speed.{speed_at, speed_of, speed_value}
+use Rattle.refusal.specs.Number.{value_of}
+use Rattle.reading.specs.Speed.{speed_at, speed_of}
 use Rattle.card.specs.Card.{card_in_range}
 use Rattle.record.specs.Record.{record_in_range}
 use Rattle.record.specs.Flags.{pressed, keys_of}
@@ -34,7 +35,7 @@ use Rattle.examples.specs.Drive.{ticks, drive, taken, at_end}
 use Rattle.examples.specs.Rows.{rows}
 
 unfoldable pub rows_hold : map (λ row. row.what) rows ≡ map (λ row. row.is) rows
-unfolding rows ticks drive taken at_end of_bits quantity speed_at speed_of speed_value card_in_range record_in_range pressed keys_of target curve_bound
+unfolding rows ticks drive taken at_end of_bits quantity speed_at speed_of value_of card_in_range record_in_range pressed keys_of target curve_bound
     largest_of curve_value signal_speed gap_man man_by_code curve_begins curve_by_code interrupted_next gap_next raise_by_code step_3_plus codes_next
     step_4_man driven_now curve_holds man_starts curve_now man_now steps_2_to_6 asks_increased asks_ordinary cyclic_kind cycle_length cyclic_lapses
     cyclic_ticks cyclic_prompts lead exceeds prompt_lapses prompt_stays due_ahead due_at_start asks_ahead asks_at_start prompt_ticks_next prompt_kind_next

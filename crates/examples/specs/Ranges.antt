@@ -1,8 +1,9 @@
 -- Every range of the paper at its bounds and one beyond, on literal cards, records, desks and readings: 1 is in range, 0 is not.
 use Rattle.std.specs.Prelude.{ℕ, ◌+◌, ◌-◌, Bool, cond, List, [], ◌∷◌, ◌++◌, map, eqb, get_or, set, replicate, length}
 use Rattle.reading.specs.Bits.{float_of_bits}
-use Rattle.reading.specs.Speed.{speed_of, speed_refusal, speed_value}
-use Rattle.reading.specs.Pressure.{pressure_of, pressure_refusal, pressure_band}
+use Rattle.refusal.specs.Number.{number_of, value_of}
+use Rattle.reading.specs.Speed.{speed_of}
+use Rattle.reading.specs.Pressure.{pressure_of}
 use Rattle.card.specs.Card.{card_in_range}
 use Rattle.record.specs.Record.{record_in_range}
 use Rattle.desk.specs.Desk.{desk_in_range}
@@ -71,14 +72,14 @@ wait_test x = card_in_range (card_of (set (leasts card_bounds) 9 x))
 -- a speed in m/s by its bits: the number of its refusal, and v
 abbrev speed : ℕ → ℕ → ℕ → Row
 speed bits number v = record {
-  what = speed_refusal (speed_of (float_of_bits bits)) ∷ speed_value (speed_of (float_of_bits bits)) ∷ [];
+  what = number_of (speed_of (float_of_bits bits)) ∷ value_of 0 (speed_of (float_of_bits bits)) ∷ [];
   is = number ∷ v ∷ [];
 }
 
 -- a pressure in bar by its bits: the number of its refusal, and its band
 abbrev pressure : ℕ → ℕ → ℕ → Row
 pressure bits number band = record {
-  what = pressure_refusal (pressure_of (float_of_bits bits)) ∷ pressure_band (pressure_of (float_of_bits bits)) ∷ [];
+  what = number_of (pressure_of (float_of_bits bits)) ∷ value_of 0 (pressure_of (float_of_bits bits)) ∷ [];
   is = number ∷ band ∷ [];
 }
 

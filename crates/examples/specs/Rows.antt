@@ -3,7 +3,8 @@
 use Rattle.std.specs.Prelude.{ℕ, ◌+◌, ◌-◌, cond, List, [], ◌∷◌, map, take, Float}
 use Rattle.reading.specs.Number.{quantity}
 use Rattle.reading.specs.Bits.{float_of_bits}
-use Rattle.reading.specs.Speed.{speed_of, speed_value}
+use Rattle.refusal.specs.Number.{value_of}
+use Rattle.reading.specs.Speed.{speed_of}
 use Rattle.record.specs.Codes.{none, stop, warning, clear}
 use Rattle.record.specs.Flags.{vigilance, man}
 use Rattle.rules.specs.declared.AfterTick.{AfterTick}
@@ -30,7 +31,7 @@ abbrev denominator : Float → ℕ
 denominator x = quantity 0 (λ n d. d) x
 
 abbrev tenths : Float → ℕ
-tenths x = speed_value (speed_of x)
+tenths x = value_of 0 (speed_of x)
 
 -- ---- looks at the answer: P; T; marks, where a curve is 2, a one-time prompt 8 and its kind 1 adds 16; causes, where NZ2 is 2 and NZ3 is 4; lowest cause
 abbrev permitted : AfterTick → ℕ

@@ -1,25 +1,30 @@
--- Laws of the run: which refusal a test that fails comes to, what an accepted run says, and what is returned then and else.
+-- Laws of the run: what an accepted run says, and what is returned and left in the buffer then and else.
 -- By the chain of numbers, first to last.
 use Prim.Native.Nat.{ℕ, ◌-◌, ◌*◌, ◌≤◌, ◌<◌}
+use Rattle.std.proofs.Common.{Result, IfOk}
 use native.Mathlib.Omega.{arith}
-use mathlib.Core.Path.{◌≡◌, refl, sym, ap, ap₂, ◌∙◌}
+use mathlib.Core.Path.{◌≡◌, refl, sym, ap₂, ◌∙◌}
 use mathlib.Core.Bool.{Bool, true, false, ◌&&◌, cond}
 use mathlib.Core.List.{List}
 use lib.Dec.{leb, ltb, eqb}
 use lib.ListN.{length}
-use borrow.Author.Tests.{eqb-true, eq-eqb, ne_eqb, lt-ltb, le-ltb, ltb-false}
+use borrow.Author.Tests.{eqb-true, eq-eqb, ne_eqb, ltb-false}
 use Rattle.numbers.proofs.Tests.{and_iff, leb_iff}
 use Rattle.numbers.proofs.All.{all_each}
 use Rattle.layout.specs.Layout.{written}
+use Rattle.card.specs.declared.Card.{Card}
 use Rattle.card.specs.Card.{CardRanges, card_in_range}
-use Rattle.card.proofs.Ranges.{card_ranges}
-use Rattle.refusal.specs.Refusal.{short_buffer, no_such_card, first_refusal}
-use Rattle.refusal.proofs.First.{both_zero, first_zero, first_some, first_of_three}
-use Rattle.file.specs.declared.Total.{Total}
+use Rattle.card.specs.Laws.{card_ranges}
+use Rattle.refusal.specs.Refusal.{short_buffer, no_such_card}
+use Rattle.refusal.specs.Number.{number, number_of}
+use Rattle.refusal.specs.declared.Refusal.{Refusal}
+use Rattle.refusal.specs.declared.Refusal.TheVariants.{ShortBuffer}
+use Rattle.refusal.proofs.First.{both_zero, first_zero}
+use Rattle.refusal.proofs.Number.{number_some, first_number}
 use Rattle.file.specs.File.{card_count, run_count, header_good, card_in}
 use Rattle.file.specs.Runs.{runs_refusal}
-use Rattle.file.specs.Read.{tick_count, drive, head_refusal}
-use Rattle.file.proofs.Reader.{runs, head_good}
+use Rattle.file.specs.Read.{tick_count, drive, total_of, head_refusal}
+use Rattle.file.proofs.Reader.{total_is, head_good}
 use Rattle.rules.specs.Answer.{answer_width}
 use Rattle.exercise.specs.Answers.{answers}
 use Rattle.exercise.specs.Run.{number_refusal, exercise_refusal, exercise_outcome, exercise_buffer}
@@ -29,38 +34,12 @@ zero_of : (b : Bool) (k : ℕ) → 0 < k → cond b 0 k ≡ 0 → b ≡ true
 zero_of true k h e = refl
 zero_of false k h e = absurd (omega arith)
 
--- the first of two numbers, from what the code finds
-pub early_is : (refusal a b head number : ℕ) → refusal ≡ first_refusal a b → a ≡ head → b ≡ number → refusal ≡ first_refusal head number
-early_is refusal a b head number e p q = e ∙ ap₂ first_refusal p q
-
 module _ (file : List ℕ) (card room : ℕ) where
-  module _ (number : ℕ) (some : number ≡ 0 → ⊥) where
-    refused_run : exercise_refusal file card room ≡ number → exercise_outcome file card room ≡ record { refusal = number; ticks = 0 }
-    unfolding exercise_outcome
-    refused_run e = rw (e, ne_eqb _ _ some)
-
-  -- before the runs
-  abbrev early : ℕ
-  early = first_refusal (head_refusal file) (number_refusal file card)
-
-  pub run_by_early : (early ≡ 0 → ⊥) → exercise_outcome file card room ≡ record { refusal = early; ticks = 0 }
-  unfolding exercise_refusal
-  run_by_early h = refused_run _ h (first_of_three _ _ _ ∙ first_some _ _ h)
-
-  module _ (h : early ≡ 0) where
-    pub run_by_runs : (runs file ≡ 0 → ⊥) → exercise_outcome file card room ≡ record { refusal = runs file; ticks = 0 }
-    unfolding exercise_refusal
-    run_by_runs k = refused_run _ k (first_of_three _ _ _ ∙ rw h (first_zero _ ∙ first_some _ _ k))
-
-    module _ (k : runs file ≡ 0) where
-      pub run_by_room : room < answer_width * tick_count file → exercise_outcome file card room ≡ record { refusal = short_buffer; ticks = 0 }
-      unfolding exercise_refusal
-      run_by_room l =
-          refused_run short_buffer (λ z. omega arith) (first_of_three _ _ _ ∙ rw (h, first_zero, k, first_zero, lt-ltb _ _ l))
-
-      pub run_by_none : answer_width * tick_count file ≤ room → exercise_outcome file card room ≡ record { refusal = 0; ticks = tick_count file }
-      unfolding exercise_refusal exercise_outcome
-      run_by_none l = rw (first_of_three, h, first_zero, k, first_zero, le-ltb _ _ l)
+  -- what the call answers is the outcome
+  pub outcome_is : (ran : Result ℕ Refusal) → number_of ran ≡ exercise_refusal file card room → IfOk ran (λ ticks. ticks ≡ tick_count file)
+      → total_of ran ≡ exercise_outcome file card room
+  unfolding exercise_outcome
+  outcome_is ran e h = total_is ran _ _ e h
 
   pub run_number : (exercise_outcome file card room).refusal ≡ exercise_refusal file card room
   unfolding exercise_outcome
@@ -102,14 +81,6 @@ run_taken file card room e =
     room_left true e = absurd (omega arith)
     room_left false e = refl
 
--- of a run by what it returns
-module _ (file : List ℕ) (card room : ℕ) (ran : Total) (is : ran ≡ exercise_outcome file card room) where
-  pub refusal_is : ran.refusal ≡ exercise_refusal file card room
-  refusal_is = ap (λ (x : Total). x.refusal) is ∙ run_number file card room
-
-  pub taken_by : ran.refusal ≡ 0 → RunTaken file card room
-  taken_by e = run_taken file card room (sym refusal_is ∙ e)
-
 module _ (file : List ℕ) (card : ℕ) (buffer : List ℕ) where
   pub buffer_yes : exercise_refusal file card (length buffer) ≡ 0 →
       exercise_buffer file card buffer ≡ written buffer 0 (answers (card_in file (card - 1)) (drive file) (tick_count file))
@@ -119,3 +90,18 @@ module _ (file : List ℕ) (card : ℕ) (buffer : List ℕ) where
   pub buffer_no : (exercise_refusal file card (length buffer) ≡ 0 → ⊥) → exercise_buffer file card buffer ≡ buffer
   unfolding exercise_buffer
   buffer_no e = rw (ne_eqb _ _ e)
+
+  -- the same, by what the code finds
+  pub buffer_kept : (refusal : Refusal) → number refusal ≡ exercise_refusal file card (length buffer) → buffer ≡ exercise_buffer file card buffer
+  buffer_kept refusal e = sym (buffer_no (λ z. number_some refusal (e ∙ z)))
+
+  pub buffer_left : (left other : List ℕ) (c : Card) → left ≡ written buffer 0 (answers c (drive other) (tick_count other))
+      → 0 ≡ exercise_refusal file card (length buffer) → other ≡ file → c ≡ card_in file (card - 1) → left ≡ exercise_buffer file card buffer
+  buffer_left left other c e h f k = e ∙ ap₂ (λ (x : List ℕ) (y : Card). written buffer 0 (answers y (drive x) (tick_count x))) f k ∙ sym (buffer_yes (sym h))
+
+-- what the refusals are proved by, one before another
+pub short_buffer_is : number ShortBuffer ≡ short_buffer
+unfolding number
+short_buffer_is = refl
+
+pub ruleset in_turn = (first_number, first_zero, short_buffer_is)

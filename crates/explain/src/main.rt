@@ -4,7 +4,7 @@
 #![tactic(auto)]
 
 use std::io::Write;
-use texts::MOST_BYTES;
+use texts::{MOST_BYTES, Tables};
 
 // Longer than any good file, so that a cut input is never taken for one.
 const FILE_MOST: usize = 65536;
@@ -18,10 +18,10 @@ fn main(rt: HostRuntime) {
     // one byte longer than a table can be
     let mut first = [0u8; MOST_BYTES + 1];
     let mut second = [0u8; MOST_BYTES + 1];
-    let Some(n) = tables::load(&rt, &mut told, b"explain", 1, &mut first) else {
+    let Some(first) = tables::load(&rt, &mut told, b"explain", 1, &mut first) else {
         return;
     };
-    let Some(m) = tables::load(&rt, &mut told, b"explain", 2, &mut second) else {
+    let Some(second) = tables::load(&rt, &mut told, b"explain", 2, &mut second) else {
         return;
     };
     let mut file = [0u8; FILE_MOST];
@@ -32,8 +32,12 @@ fn main(rt: HostRuntime) {
             return;
         }
     };
+    let tables = Tables {
+        first: first,
+        second: second,
+    };
     let mut out = rt.stdout();
-    if let Err(error) = telling::tell(&mut out, &first[..n], &second[..m], &file[..length]) {
+    if let Err(error) = telling::tell(&mut out, tables, &file[..length]) {
         input::fail(&mut told, b"explain: standard output", error);
     }
 }

@@ -15,7 +15,10 @@ use Rattle.record.specs.declared.Record.{Record}
 use Rattle.record.specs.Record.{record_in_range}
 use Rattle.record.specs.Times.{most_ticks}
 use Rattle.refusal.specs.Refusal.{bad_ticks, bad_record}
+use Rattle.refusal.specs.Number.{number}
+use Rattle.refusal.specs.declared.Refusal.{Refusal}
 use Rattle.refusal.proofs.First.{both_zero, first_zero, first_some}
+use Rattle.refusal.proofs.Number.{number_some}
 use Rattle.file.specs.File.{run_count, run_ticks, run_record}
 use Rattle.file.specs.Runs.{ticks_to, run_fault, runs_refusal, tick_record}
 
@@ -78,6 +81,14 @@ module _ (file : List ℕ) where
       (λ (e : j ≡ m). rw (← e, h) (first_zero _))
       (λ (l : j < m). let r = runs_first j m l h f in first_some _ _ (λ z. f (sym r ∙ z)) ∙ r)
       (eq-or-lt_of_le (le_of_suc-le-suc l))
+
+  -- the same, from what the code reads of this run
+  pub runs_stop : (refusal : Refusal) (j sum ticks : ℕ) (r : Record) → number refusal ≡ run_fault sum ticks r → sum ≡ ticks_to file j
+      → ticks ≡ run_ticks file j → r ≡ run_record file j → j < run_count file → runs_refusal file j ≡ 0
+      → number refusal ≡ runs_refusal file (run_count file)
+  runs_stop refusal j sum ticks r e p q s l h =
+      let here : number refusal ≡ fault j = e ∙ fault_is j sum ticks r p q s in
+      here ∙ sym (runs_first j (run_count file) l h (λ z. number_some refusal (here ∙ z)))
 
   pub runs_each : (j m : ℕ) → j < m → runs_refusal file m ≡ 0 → RunGood (ticks_to file j) (run_ticks file j) (run_record file j)
   unfolding runs_refusal

@@ -1,11 +1,17 @@
 -- What the reader returns. A refusal number of 0 is none.
-use Rattle.std.specs.Prelude.{ℕ, not, cond, List, eqb}
+use Rattle.std.specs.Prelude.{ℕ, not, cond, List, eqb, Result}
 use Rattle.refusal.specs.Refusal.{bad_card, bad_file, first_refusal}
+use Rattle.refusal.specs.Number.{number_of, value_of}
+use Rattle.refusal.specs.declared.Refusal.{Refusal}
 use Rattle.record.specs.declared.Record.{Record}
 use Rattle.file.specs.declared.Counts.{Counts}
 use Rattle.file.specs.declared.Total.{Total}
 use Rattle.file.specs.File.{header_good, card_count, run_count, cards_in_range}
 use Rattle.file.specs.Runs.{ticks_to, runs_refusal, tick_record}
+
+-- ticks or a refusal, as a total
+unfoldable pub total_of : Result ℕ Refusal → Total
+total_of ran = record { refusal = number_of ran; ticks = value_of 0 ran }
 
 module _ (file : List ℕ) where
   -- of all the runs

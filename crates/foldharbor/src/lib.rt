@@ -56,7 +56,7 @@ pub fn foldharbor_card_at(bytes: &[u8]) -> Card
     ensures { result ≡ card_from bytes.now }
 {
     if bytes.len() < CARD_WIDTH {
-        return card::no_card();
+        return Card::default();
     }
     card::card_at(bytes, 0)
 }
@@ -75,7 +75,7 @@ pub fn foldharbor_answer_at(bytes: &[u8]) -> Answer
     ensures { result ≡ answer_from bytes.now }
 {
     if bytes.len() < ANSWER_WIDTH {
-        return rules::no_answer();
+        return Answer::default();
     }
     rules::answer_at(bytes, 0)
 }

@@ -17,6 +17,7 @@ pub fn foldharbor_read_exercise(exercise: &[u8]) -> Counts
     file::read(exercise)
 }
 
+// One number for the host program: the ticks, or 10,000 and more. `exercise::run` answers a `Total`, of which the demands speak (`Demand1.exercise`).
 #[tactic(auto, unfolding(crate::specs::Exercise::host_number))]
 pub fn foldharbor_run_exercise(exercise: &[u8], card: u32, answers: &mut [u8]) -> u32
     ensures number { result ≡ host_number (exercise_outcome exercise.now card (length answers.old)) }

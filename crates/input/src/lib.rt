@@ -21,6 +21,7 @@ pub fn fill<R: Read>(input: &mut R, buffer: &mut [u8]) -> io::Result<usize>
     ensures end { IfOk result (λ n. n < length buffer.old → IsAtEnd (R.remaining input.new)) }
 {
     let mut n = 0;
+    // a `while`: a turn goes on by as much as the read gives
     while n < buffer.len() {
         let more = input.read(&mut buffer[n..])?;
         if more == 0 {

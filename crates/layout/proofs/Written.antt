@@ -2,12 +2,12 @@
 -- By the parts before, in and after the place; stores one after the other by `sets-eq`. Assumes nothing.
 use Prim.Native.Nat.{ℕ, suc, ◌+◌, ◌-◌, ◌≤◌, ◌<◌}
 use native.Mathlib.Nat.{add-zero, add_assoc}
-use native.Mathlib.Numerals.{add-one, add-two, add-three, add-four, add_five, add_six, add_seven}
 use native.Mathlib.Omega.{arith}
 use mathlib.Core.Path.{◌≡◌, sym, ap, ◌∙◌}
 use mathlib.Core.List.{List, [], ◌∷◌, ◌++◌, append_assoc, append-nil}
-use lib.ListN.{length, get_or, take, drop, set, length-append, take-append-drop, get_or-append}
+use lib.ListN.{length, get_or, take, drop, set, length-append, length-drop, take-append-drop, get_or-append}
 use lib.Seq.{length-take-le, take_at, drop_at, drop-drop, get_or-take, get_or-drop, sets-eq, length-sets}
+use borrow.Rule.Slice.PartMut.{put_mid}
 use Rattle.layout.specs.Layout.{written}
 
 pub written-nil : (l : List ℕ) (at : ℕ) → written l at [] ≡ l
@@ -67,14 +67,11 @@ store_then l at a new fits =
     let one : set l at a ≡ written l at (a ∷ []) = sets-eq (a ∷ []) l at (omega arith) in
     ap (λ (x : List ℕ). written x (at + 1) new) one ∙ written-append l at (a ∷ []) new (omega arith)
 
-pub two_stores : (l : List ℕ) (at a b : ℕ) → at + 2 ≤ length l → set (set l at a) (at + 1) b ≡ written l at (a ∷ b ∷ [])
+-- a part of a slice that was filled with as many bytes, as `copy_from_slice` leaves it
+pub part_written : (l new part : List ℕ) (at n : ℕ) → at + n ≤ length l
+    → length part ≡ length (take (at + n - at) (drop at l)) → part ≡ new → put_mid at (at + n - at) l part ≡ written l at new
 unfolding written
-two_stores l at a b fits = rw add-one (sets-eq (a ∷ b ∷ []) l at fits)
-
-pub eight_stores : (l : List ℕ) (at a b c d e f g h : ℕ) → at + 8 ≤ length l
-    → set (set (set (set (set (set (set (set l at a) (at + 1) b) (at + 2) c) (at + 3) d) (at + 4) e) (at + 5) f) (at + 6) g) (at + 7) h
-    ≡ written l at (a ∷ b ∷ c ∷ d ∷ e ∷ f ∷ g ∷ h ∷ [])
-unfolding written
-eight_stores l at a b c d e f g h fits =
-    rw (add-one, add-two, add-three, add-four, add_five, add_six, add_seven)
-    (sets-eq (a ∷ b ∷ c ∷ d ∷ e ∷ f ∷ g ∷ h ∷ []) l at fits)
+part_written l new part at n fits many e =
+    let count : at + n - at ≡ n = omega arith in
+    let as_many : length new ≡ n = (omega (arith, ap length e, rw count at many, length-take-le n (drop at l) (omega (arith, length-drop at l)))) in
+    rw (e, count, as_many, drop-drop n at l, append_assoc)

@@ -2,8 +2,8 @@
 #![tactic(auto)]
 
 ghost use Rattle.std.specs.Prelude.{◌≡◌, ◌+◌, ◌*◌, ◌/◌, ◌%◌, ◌≤◌, leb, length, get_or};
-ghost use mathlib.Core.List.{[], ◌∷◌, flat_map};
-ghost use Rattle.layout.specs.Layout.{u16_at, u16_bytes, written};
+ghost use mathlib.Core.List.{flat_map};
+ghost use Rattle.layout.specs.Layout.{u16_at, u16_bytes, written, put};
 
 // The byte `k` places after `at`.
 pub fn byte_at(bytes: &[u8], at: usize, k: usize) -> u8
@@ -20,7 +20,7 @@ pub fn byte_at(bytes: &[u8], at: usize, k: usize) -> u8
 fn u16_of(low: u8, high: u8) -> u16
     ensures { result ≡ low + 256 * high }
 {
-    low as u16 + 256 * (high as u16)
+    u16::from_le_bytes([low, high])
 }
 
 // The u16 `k` places after `at`, its low byte first.
@@ -55,16 +55,22 @@ pub fn fits(length: usize, at: usize, width: usize) -> bool
     at <= length - width
 }
 
-pub fn low_byte(x: u16) -> u8
-    ensures { result ≡ x % 256 }
+// Writes bytes from `at`, where they are known to fit: no test.
+pub fn put_bytes<const N: usize>(bytes: &mut [u8], at: usize, new: [u8; N])
+    requires { at + N ≤ length bytes.old }
+    ensures { bytes.new ≡ written bytes.old at new.entry }
 {
-    (x % 256) as u8
+    bytes[at..at + N].copy_from_slice(&new);
 }
 
-pub fn high_byte(x: u16) -> u8
-    ensures { result ≡ x / 256 % 256 }
+// Writes bytes from `at`; where they do not fit, nothing.
+#[tactic(auto, unfolding(crate::specs::Layout::put))]
+pub fn put_if_fits<const N: usize>(bytes: &mut [u8], at: usize, new: [u8; N])
+    ensures { bytes.new ≡ put bytes.old at new.entry }
 {
-    (x / 256) as u8
+    if fits(bytes.len(), at, N) {
+        put_bytes(bytes, at, new);
+    }
 }
 
 // Writes a u16 from `at`, its low byte first.
@@ -72,8 +78,7 @@ pub fn put_u16(bytes: &mut [u8], at: usize, x: u16)
     requires { at + 2 ≤ length bytes.old }
     ensures { bytes.new ≡ written bytes.old at (u16_bytes x) }
 {
-    bytes[at] = low_byte(x);
-    bytes[at + 1] = high_byte(x);
+    put_bytes(bytes, at, x.to_le_bytes());
 }
 
 // Writes u16 end to end from `at`, each with its low byte first.
@@ -81,35 +86,7 @@ pub fn put_u16s(bytes: &mut [u8], at: usize, new: &[u16])
     requires { at + 2 * length new.now ≤ length bytes.old }
     ensures { bytes.new ≡ written bytes.old at (flat_map u16_bytes new.now) }
 {
-    let mut i = 0;
-    while i < new.len() {
-        put_u16(bytes, at + 2 * i, new[i]);
-        i += 1;
+    for (i, x) in new.iter().enumerate() {
+        put_u16(bytes, at + 2 * i, *x);
     }
-}
-
-// Writes eight bytes from `at`.
-pub fn put_eight(
-    bytes: &mut [u8],
-    at: usize,
-    a: u8,
-    b: u8,
-    c: u8,
-    d: u8,
-    e: u8,
-    f: u8,
-    g: u8,
-    h: u8,
-)
-    requires { at + 8 ≤ length bytes.old }
-    ensures { bytes.new ≡ written bytes.old at (a ∷ b ∷ c ∷ d ∷ e ∷ f ∷ g ∷ h ∷ []) }
-{
-    bytes[at] = a;
-    bytes[at + 1] = b;
-    bytes[at + 2] = c;
-    bytes[at + 3] = d;
-    bytes[at + 4] = e;
-    bytes[at + 5] = f;
-    bytes[at + 6] = g;
-    bytes[at + 7] = h;
 }

@@ -17,15 +17,8 @@ pub const LINE_MOST: usize = 8 * NUMBER_MOST;
 // The most bytes of the line of reasons: the refusal, and nine numbers of each cause.
 pub const REASONS_LINE_MOST: usize = (1 + 5 * 9) * NUMBER_MOST;
 
-// In ASCII.
-const SPACE: u8 = 32;
-
-const LINE_END: u8 = 10;
-
-// The digit 0; the others follow it.
-const DIGIT_ZERO: u8 = 48;
-
 // Writes the digit of x at a weight, where there is one; answers the place after it.
+// Digits by hand, and the place as a number: `line_of` can't fail, and a `write!` through a cursor can.
 fn put_digit(out: &mut [u8], at: usize, x: u16, weight: u16) -> usize
     requires { (at < length out.old) × (0 < weight) }
     ensures place { (result ≡ at + length (digit_at x weight)) × (result ≤ at + 1) }
@@ -34,7 +27,7 @@ fn put_digit(out: &mut [u8], at: usize, x: u16, weight: u16) -> usize
     if x < weight {
         return at;
     }
-    out[at] = DIGIT_ZERO + (x / weight % 10) as u8;
+    out[at] = b'0' + (x / weight % 10) as u8;
     at + 1
 }
 
@@ -48,7 +41,7 @@ fn put_decimal(out: &mut [u8], at: usize, x: u16) -> usize
     let b = put_digit(out, a, x, 1000);
     let c = put_digit(out, b, x, 100);
     let d = put_digit(out, c, x, 10);
-    out[d] = DIGIT_ZERO + (x % 10) as u8;
+    out[d] = b'0' + (x % 10) as u8;
     d + 1
 }
 
@@ -59,11 +52,9 @@ fn put_spaced(out: &mut [u8], from: usize, numbers: &[u16]) -> usize
     ensures text { out.new ≡ written out.old from (spaced numbers.now) }
 {
     let mut at = from;
-    let mut i = 0;
-    while i < numbers.len() {
-        out[at] = SPACE;
-        at = put_decimal(out, at + 1, numbers[i]);
-        i += 1;
+    for x in numbers {
+        out[at] = b' ';
+        at = put_decimal(out, at + 1, *x);
     }
     at
 }
@@ -88,7 +79,7 @@ pub fn line_of(outcome: Outcome, out: &mut [u8; LINE_MOST]) -> usize
             answer.held as u16,
         ],
     );
-    out[end] = LINE_END;
+    out[end] = b'\n';
     end + 1
 }
 
@@ -99,6 +90,7 @@ fn put_reason(out: &mut [u8], at: usize, cause: u16, reason: Reason) -> usize
     ensures place { (result ≡ at + length (spaced (reason_numbers cause reason))) × (result ≤ at + reason_most) }
     ensures text { out.new ≡ written out.old at (spaced (reason_numbers cause reason)) }
 {
+    // tick 0 of a `Reason`, which C reads, is no tick
     if reason.tick == 0 {
         return at;
     }
@@ -120,7 +112,7 @@ fn put_reason(out: &mut [u8], at: usize, cause: u16, reason: Reason) -> usize
     )
 }
 
-// Writes the line of reasons; answers its length.
+// Writes the line of reasons; answers its length. The five are fields, since C reads `Reasons`.
 pub fn line_of_reasons(reasons: Reasons, out: &mut [u8; REASONS_LINE_MOST]) -> usize
     ensures length { (result ≡ length (line_of_reasons reasons)) × (result ≤ length out.new) }
     ensures text { out.new ≡ written out.old 0 (line_of_reasons reasons) }
@@ -131,6 +123,6 @@ pub fn line_of_reasons(reasons: Reasons, out: &mut [u8; REASONS_LINE_MOST]) -> u
     let fourth = put_reason(out, third, 3, reasons.nz3);
     let fifth = put_reason(out, fourth, 4, reasons.nz4);
     let end = put_reason(out, fifth, 5, reasons.nz5);
-    out[end] = LINE_END;
+    out[end] = b'\n';
     end + 1
 }

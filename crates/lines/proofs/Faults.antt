@@ -12,24 +12,23 @@ use borrow.Author.Tests.{ltb-true, ltb-false, not-true, not-false}
 use Rattle.utf8.specs.Utf8.{Utf8}
 use Rattle.utf8.proofs.Utf8.{utf8?}
 use Rattle.texts.specs.Table.{most_messages, most_bytes, header_width}
-use Rattle.lines.specs.Made.{made_after, made_of}
+use Rattle.lines.specs.Made.{bad, made_after, made_of}
 use Rattle.lines.specs.Making.{table_length, FirstFit, FirstFault, no_line, too_many, too_long, not_utf8}
-use Rattle.lines.specs.declared.Fault.{Fault}
-use Rattle.lines.specs.declared.Fault.TheVariants.{NoLine, TooMany, TooLong, NotUtf8}
-use Rattle.lines.specs.declared.Made.TheVariants.{Bad}
-use Rattle.lines.proofs.Judged.{each_on}
+use Rattle.lines.specs.declared.FaultKind.{FaultKind}
+use Rattle.lines.specs.declared.FaultKind.TheVariants.{NoLine, TooMany, TooLong, NotUtf8}
+use Rattle.lines.proofs.Judged.{bad_is, each_on}
 
 -- ---- after so many lines with so many bytes: the bytes of the table of those and of the first k of the rest
 bytes_to : ℕ → ℕ → List (List ℕ) → ℕ → ℕ
 bytes_to count bytes rest k = header_width (count + k) + bytes + length (flatten (take k rest))
 
-data Wrong (count bytes : ℕ) (rest : List (List ℕ)) (k : ℕ) (fault : Fault) : Type 0 where
+data Wrong (count bytes : ℕ) (rest : List (List ℕ)) (k : ℕ) (fault : FaultKind) : Type 0 where
   many : fault ≡ TooMany → most_messages ≤ count + k → Wrong count bytes rest k fault
   long : fault ≡ TooLong → count + k < most_messages → most_bytes < bytes_to count bytes rest (suc k) → Wrong count bytes rest k fault
   ill : fault ≡ NotUtf8 → count + k < most_messages → bytes_to count bytes rest (suc k) ≤ most_bytes
       → (Utf8 (get_or rest k []) → ⊥) → Wrong count bytes rest k fault
 
-record After (count bytes : ℕ) (rest : List (List ℕ)) (fault : Fault) (line : ℕ) : Type 0 where
+record After (count bytes : ℕ) (rest : List (List ℕ)) (fault : FaultKind) (line : ℕ) : Type 0 where
   k : ℕ
   told : line ≡ count + k + 1
   there : k < length rest
@@ -48,7 +47,7 @@ first_bytes : (count bytes : ℕ) (rest : List (List ℕ)) → bytes_to count by
 unfolding bytes_to flatten
 first_bytes count bytes rest = omega arith
 
-wrong_on : (count bytes : ℕ) (line : List ℕ) (rest : List (List ℕ)) (k : ℕ) (fault : Fault) → Wrong (count + 1) (bytes + length line) rest k fault
+wrong_on : (count bytes : ℕ) (line : List ℕ) (rest : List (List ℕ)) (k : ℕ) (fault : FaultKind) → Wrong (count + 1) (bytes + length line) rest k fault
     → Wrong count bytes (line ∷ rest) (suc k) fault
 wrong_on count bytes line rest k fault (many e h) = many e (omega arith)
 wrong_on count bytes line rest k fault (long e h l) = long e (omega arith) (rw (bytes_on count bytes line rest (suc k)) l)
@@ -56,7 +55,7 @@ wrong_on count bytes line rest k fault (ill e h l u) = ill e (omega arith) (rw (
 
 -- ---- the first fault after so many lines
 -- the line itself is at fault
-here : (count bytes : ℕ) (line : List ℕ) (rest : List (List ℕ)) (fault : Fault) (told : ℕ)
+here : (count bytes : ℕ) (line : List ℕ) (rest : List (List ℕ)) (fault : FaultKind) (told : ℕ)
     → count ≤ most_messages → header_width count + bytes ≤ most_bytes → told ≡ count + 1 → Wrong count bytes (line ∷ rest) 0 fault
     → After count bytes (line ∷ rest) fault told
 here count bytes line rest fault told l h e w =
@@ -71,7 +70,7 @@ here count bytes line rest fault told l h e w =
     }
 
 -- one behind it is
-behind : (count bytes : ℕ) (line : List ℕ) (rest : List (List ℕ)) (fault : Fault) (told : ℕ) → Utf8 line
+behind : (count bytes : ℕ) (line : List ℕ) (rest : List (List ℕ)) (fault : FaultKind) (told : ℕ) → Utf8 line
     → After (count + 1) (bytes + length line) rest fault told → After count bytes (line ∷ rest) fault told
 behind count bytes line rest fault told u a =
     record {
@@ -84,8 +83,8 @@ behind count bytes line rest fault told u a =
       wrong = wrong_on count bytes line rest a.k fault a.wrong;
     }
 
-fault_after : (rest : List (List ℕ)) (count bytes : ℕ) (fault : Fault) (told : ℕ) → count ≤ most_messages → header_width count + bytes ≤ most_bytes
-    → made_after count bytes rest ≡ Bad fault told → After count bytes rest fault told
+fault_after : (rest : List (List ℕ)) (count bytes : ℕ) (fault : FaultKind) (told : ℕ) → count ≤ most_messages → header_width count + bytes ≤ most_bytes
+    → made_after count bytes rest ≡ bad fault told → After count bytes rest fault told
 unfolding made_after
 fault_after [] count bytes fault told l h e = absurd (let k : ◌≡◌ {A = ℕ} 0 1 = cc in omega arith)
 fault_after (line ∷ rest) count bytes fault told l h e =
@@ -97,25 +96,28 @@ fault_after (line ∷ rest) count bytes fault told l h e =
 
     go : (a b c : Bool) → ltb most_messages (count + 1) ≡ a → ltb most_bytes (header_width (count + 1) + bytes + length line) ≡ b
         → not (decide (utf8? line)) ≡ c
-        → cond a (Bad TooMany (count + 1)) (cond b (Bad TooLong (count + 1)) (cond c (Bad NotUtf8 (count + 1))
+        → cond a (bad TooMany (count + 1)) (cond b (bad TooLong (count + 1)) (cond c (bad NotUtf8 (count + 1))
         (made_after (count + 1) (bytes + length line) rest)))
-        ≡ Bad fault told
+        ≡ bad fault told
         → (count + 1 ≤ most_messages → header_width (count + 1) + (bytes + length line) ≤ most_bytes
-        → made_after (count + 1) (bytes + length line) rest ≡ Bad fault told → After (count + 1) (bytes + length line) rest fault told)
+        → made_after (count + 1) (bytes + length line) rest ≡ bad fault told → After (count + 1) (bytes + length line) rest fault told)
         → After count bytes (line ∷ rest) fault told
     go true b c x y z e on =
-        let f : fault ≡ TooMany = cc in
-        let n : told ≡ count + 1 = cc in
+        let same = bad_is TooMany fault (count + 1) told e in
+        let f : fault ≡ TooMany = same.0 in
+        let n : told ≡ count + 1 = same.1 in
         let beyond = ltb-true most_messages (count + 1) x in
         here count bytes line rest fault told l h n (many f (omega arith))
     go false true c x y z e on =
-        let f : fault ≡ TooLong = cc in
-        let n : told ≡ count + 1 = cc in
+        let same = bad_is TooLong fault (count + 1) told e in
+        let f : fault ≡ TooLong = same.0 in
+        let n : told ≡ count + 1 = same.1 in
         let room = ltb-false most_messages (count + 1) x in
         here count bytes line rest fault told l h n (long f (omega arith) (rw size (ltb-true _ _ y)))
     go false false true x y z e on =
-        let f : fault ≡ NotUtf8 = cc in
-        let n : told ≡ count + 1 = cc in
+        let same = bad_is NotUtf8 fault (count + 1) told e in
+        let f : fault ≡ NotUtf8 = same.0 in
+        let n : told ≡ count + 1 = same.1 in
         let room = ltb-false most_messages (count + 1) x in
         let not_well : Utf8 line → ⊥ = λ u. true≢false (sym ((decide_iff (utf8? line)).1 u) ∙ not-true _ z) in
         here count bytes line rest fault told l h n (ill f (omega arith) (rw size (ltb-false _ _ y)) not_well)
@@ -125,7 +127,7 @@ fault_after (line ∷ rest) count bytes fault told l h e =
         behind count bytes line rest fault told ((decide_iff (utf8? line)).0 (not-false _ z)) (on (omega arith) (omega arith) e)
 
 -- ---- of a whole list of lines
-module _ (messages : List (List ℕ)) (fault : Fault) (told : ℕ) where
+module _ (messages : List (List ℕ)) (fault : FaultKind) (told : ℕ) where
   -- what is counted from 0 on is what the table of the first k would be
   all_bytes : (k : ℕ) → k ≤ length messages → bytes_to 0 0 messages k ≡ table_length (take k messages)
   unfolding bytes_to
@@ -158,11 +160,10 @@ module _ (messages : List (List ℕ)) (fault : Fault) (told : ℕ) where
       go (long e h l) = too_long k e line there fit (omega (arith, line)) (rw size at l)
       go (ill e h l u) = not_utf8 k e line there fit (omega (arith, line)) (rw size at l) u
 
-pub fault_first : (messages : List (List ℕ)) (fault : Fault) (told : ℕ) → made_of messages ≡ Bad fault told → FirstFault messages fault told
+pub fault_first : (messages : List (List ℕ)) (fault : FaultKind) (told : ℕ) → made_of messages ≡ bad fault told → FirstFault messages fault told
 unfolding made_of
 fault_first [] fault told e =
-    let f : fault ≡ NoLine = cc in
-    let n : told ≡ 1 = cc in
-    no_line f n refl
+    let same = bad_is NoLine fault 1 told e in
+    no_line same.0 same.1 refl
 fault_first (line ∷ rest) fault told e =
     told_after (line ∷ rest) fault told (fault_after (line ∷ rest) 0 0 fault told (omega arith) (omega arith) e)

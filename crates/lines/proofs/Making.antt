@@ -10,15 +10,15 @@ use lib.ListN.{length, get_or, take, length-append}
 use lib.Seq.{take_at}
 use borrow.Author.Tests.{le-ltb}
 use contract.Lifetimes.{Lfts}
+use Rattle.std.specs.Prelude.{Ok, Err}
 use Rattle.utf8.specs.Utf8.{Utf8}
 use Rattle.utf8.proofs.Utf8.{utf8?}
 use Rattle.layout.specs.Layout.{written}
 use Rattle.texts.specs.Table.{most_messages, most_bytes, header_width}
 use Rattle.lines.specs.Lines.{lines, text_of}
 use Rattle.lines.specs.Table.{table_of}
-use Rattle.lines.specs.Made.{made_after, made_of}
+use Rattle.lines.specs.Made.{good, made_after, made_of}
 use Rattle.lines.specs.Making.{table_length, Fitting, Unbroken, Makes, FirstFault}
-use Rattle.lines.specs.declared.Made.TheVariants.{Table, Bad}
 use Rattle.lines.proofs.Judged.{bytes_table, table_some, table_whole}
 use Rattle.lines.proofs.Faults.{fault_first}
 use Rattle.lines.proofs.Lines.{lines_unbroken, lines_text}
@@ -30,15 +30,15 @@ use Rattle.lines.proofs.make.Reads as making
 no_fault : (messages : List (List ℕ)) (count bytes : ℕ) → count + length messages ≤ most_messages
     → header_width (count + length messages) + bytes + length (flatten messages) ≤ most_bytes
     → ((i : ℕ) → i < length messages → Utf8 (get_or messages i []))
-    → made_after count bytes messages ≡ Table (count + length messages) (header_width (count + length messages) + bytes + length (flatten messages))
+    → made_after count bytes messages ≡ good (count + length messages) (header_width (count + length messages) + bytes + length (flatten messages))
 unfolding made_after flatten
-no_fault [] count bytes l h u = ap₂ Table (omega arith) (omega arith)
+no_fault [] count bytes l h u = ap₂ good (omega arith) (omega arith)
 no_fault (message ∷ messages) count bytes l h u =
     let n = length-append message (flatten messages) in
     let well = (decide_iff (utf8? message)).1 (u 0 (omega arith)) in
     rw (le-ltb most_messages (count + 1) (omega arith), le-ltb most_bytes (header_width (count + 1) + bytes + length message) (omega arith), well)
     (no_fault messages (count + 1) (bytes + length message) (omega arith) (omega arith) (λ i k. u (suc i) (omega arith))
-    ∙ ap₂ Table (omega arith) (omega arith))
+    ∙ ap₂ good (omega arith) (omega arith))
 
 -- the start of what is written from 0 on
 front : (l new : List ℕ) → take (length new) (written l 0 new) ≡ new
@@ -46,14 +46,14 @@ unfolding written
 front l new = take_at new _ (length new) refl
 
 -- ---- what is made of messages that fit
-made_fitting : (messages : List (List ℕ)) → Fitting messages → made_of messages ≡ Table (length messages) (table_length messages)
+made_fitting : (messages : List (List ℕ)) → Fitting messages → made_of messages ≡ good (length messages) (table_length messages)
 unfolding made_of
 made_fitting [] fit = absurd (omega (arith, fit.some))
 made_fitting (m ∷ messages) fit =
-    no_fault (m ∷ messages) 0 0 (omega (arith, fit.most)) (omega (arith, fit.short)) fit.utf8 ∙ ap₂ Table (omega arith) (omega arith)
+    no_fault (m ∷ messages) 0 0 (omega (arith, fit.most)) (omega (arith, fit.short)) fit.utf8 ∙ ap₂ good (omega arith) (omega arith)
 
 -- ---- where a table is made, they fit
-fitting_made : (messages : List (List ℕ)) (n m : ℕ) → made_of messages ≡ Table n m → Fitting messages
+fitting_made : (messages : List (List ℕ)) (n m : ℕ) → made_of messages ≡ good n m → Fitting messages
 fitting_made messages n m e =
     let w = table_whole messages n m e in
     record {
@@ -76,8 +76,8 @@ module _ (κs : Lfts 2) (text buffer : _) (r : _) (s : _) (post : making.Post κ
   pub list_makes : (messages : List (List ℕ)) → Fitting messages → Unbroken messages → text.now ≡ text_of messages → Makes messages r s.1.0.now
   list_makes messages fit unbroken is = lines_make messages fit (ap lines is ∙ lines_text messages unbroken)
 
-  pub made_fits : (count length : ℕ) → r ≡ Table count length → Fitting (lines text.now) × Unbroken (lines text.now)
-  made_fits count length e = (fitting_made (lines text.now) count length (sym post.0 ∙ e), lines_unbroken text.now)
+  pub made_fits : (table : _) → r ≡ Ok table → Fitting (lines text.now) × Unbroken (lines text.now)
+  made_fits table e = (fitting_made (lines text.now) table.count table.length (sym post.0 ∙ e), lines_unbroken text.now)
 
-  pub told_first : (fault : _) (line : ℕ) → r ≡ Bad fault line → FirstFault (lines text.now) fault line
-  told_first fault line e = fault_first (lines text.now) fault line (sym post.0 ∙ e)
+  pub told_first : (fault : _) → r ≡ Err fault → FirstFault (lines text.now) fault.kind fault.line
+  told_first fault e = fault_first (lines text.now) fault.kind fault.line (sym post.0 ∙ e)

@@ -11,7 +11,7 @@ use lib.Seq.{slice, take-append-add, drop-append-add, take-append_seam}
 use Rattle.layout.specs.Layout.{u16_at, u16_bytes}
 use Rattle.layout.proofs.U16.{u16_at_bytes}
 use Rattle.texts.specs.Table.{header_width, count, offset, message}
-use Rattle.texts.proofs.Tables.{Good, good_table}
+use Rattle.texts.proofs.Good.{Good, good_table}
 use Rattle.lines.specs.Table.{offsets, table_of}
 use Rattle.lines.specs.Making.{Fitting, Holds}
 use Rattle.lines.proofs.Offsets.{offsets_length, table_length_lem}

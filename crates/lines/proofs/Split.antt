@@ -6,10 +6,13 @@ use native.Mathlib.Omega.{arith}
 use mathlib.Core.Path.{◌≡◌, refl, sym, ap, ◌∙◌}
 use mathlib.Core.Bool.{Bool, true, false, cond}
 use mathlib.Core.List.{List, [], ◌∷◌, flatten}
-use lib.Dec.{eqb}
+use lib.Dec.{eqb, ltb}
 use lib.ListN.{length, get_or, take, drop, set, length-drop, drop_of_length-le}
 use lib.Seq.{slice, drop-cons, drop-drop}
-use borrow.Author.Tests.{eq-eqb, ne_eqb}
+use borrow.Author.Tests.{eq-eqb, ne_eqb, ltb-true, ltb-false}
+use Rattle.std.specs.Prelude.{Some, None}
+use Rattle.std.specs.List.{position, position_or_len}
+use Rattle.std.proofs.lemmas.List.Recursion.{is_position_or_len}
 use Rattle.layout.specs.Layout.{written}
 use Rattle.layout.proofs.Slices.{cut_slice}
 use Rattle.layout.proofs.Written.{store_then}
@@ -130,3 +133,46 @@ module _ (text : List ℕ) (at : ℕ) where
     put_more table to n fits =
         let more = length_more n in
         store_then table to _ _ (omega arith) ∙ sym (ap (written table to) (bytes_more n))
+
+first_most : (text : List ℕ) → length (first_line text) ≤ length text
+unfolding first_line
+first_most [] = omega arith
+first_most (byte ∷ text) = go (eqb byte line_end) (first_most text)
+  where
+    go : (b : Bool) → length (first_line text) ≤ length text → length (cond b [] (byte ∷ first_line text)) ≤ suc (length text)
+    go true h = omega arith
+    go false h = omega arith
+
+-- ---- the first line ends where the first line end stands, else with the text
+pub line_position : (text : List ℕ) → length (first_line text) ≡ position_or_len (λ byte. eqb byte line_end) text
+unfolding first_line
+line_position text =
+    is_position_or_len (λ rest. length (first_line rest)) (λ byte. eqb byte line_end) refl
+    (λ byte rest. next (eqb byte line_end) byte (first_line rest)) text
+  where
+    next : (ends : Bool) (byte : ℕ) (line : List ℕ) → length (cond ends [] (byte ∷ line)) ≡ cond ends 0 (1 + length line)
+    next true byte line = refl
+    next false byte line = omega arith
+
+pub line_found : (text : List ℕ) (n : ℕ) → position (λ byte. eqb byte line_end) text ≡ Some n → (n ≡ length (first_line text)) × (n < length text)
+line_found text n e = go (ltb (position_or_len (λ byte. eqb byte line_end) text) (length text)) refl e
+  where
+    go : (b : Bool) → ltb (position_or_len (λ byte. eqb byte line_end) text) (length text) ≡ b
+        → cond b (Some (position_or_len (λ byte. eqb byte line_end) text)) None ≡ Some n → (n ≡ length (first_line text)) × (n < length text)
+    go true l is =
+        let same : position_or_len (λ byte. eqb byte line_end) text ≡ n = cc in
+        let within = ltb-true _ _ l in
+        (sym same ∙ sym (line_position text), rw same at within)
+    go false l is = absurd (let k : ◌≡◌ {A = ℕ} 0 1 = cc in omega arith)
+
+pub line_whole : (text : List ℕ) → position (λ byte. eqb byte line_end) text ≡ None → length text ≡ length (first_line text)
+line_whole text e = go (ltb (position_or_len (λ byte. eqb byte line_end) text) (length text)) refl e
+  where
+    go : (b : Bool) → ltb (position_or_len (λ byte. eqb byte line_end) text) (length text) ≡ b
+        → cond b (Some (position_or_len (λ byte. eqb byte line_end) text)) None ≡ None → length text ≡ length (first_line text)
+    go true l is = absurd (let k : ◌≡◌ {A = ℕ} 0 1 = cc in omega arith)
+    go false l is =
+        let past = ltb-false _ _ l in
+        let most = first_most text in
+        let same = line_position text in
+        omega arith

@@ -1,14 +1,15 @@
 -- What making a table comes to: of every list of 1 to 64 messages that fit, a line each, a good table is made and its message i is the list's, to the byte.
 -- Of no other lines is one made: the first line at fault is told. Proved of what `make` returns and writes, in proofs/Making.antt.
-use Rattle.std.specs.Prelude.{ℕ, ◌+◌, ◌≤◌, ◌<◌, ◌≡◌, true, length, get_or, take}
+use Rattle.std.specs.Prelude.{ℕ, ◌+◌, ◌≤◌, ◌<◌, ◌≡◌, true, length, get_or, take, Result}
 use mathlib.Core.List.{List, [], flatten}
 use Rattle.utf8.specs.Utf8.{Utf8}
 use Rattle.texts.specs.Table.{most_messages, most_bytes, header_width, count, message, table_good}
 use Rattle.lines.specs.Lines.{line_end}
+use Rattle.lines.specs.Made.{good}
+use Rattle.lines.specs.declared.FaultKind.{FaultKind}
+use Rattle.lines.specs.declared.FaultKind.TheVariants.{NoLine, TooMany, TooLong, NotUtf8}
 use Rattle.lines.specs.declared.Fault.{Fault}
-use Rattle.lines.specs.declared.Fault.TheVariants.{NoLine, TooMany, TooLong, NotUtf8}
-use Rattle.lines.specs.declared.Made.{Made}
-use Rattle.lines.specs.declared.Made.TheVariants.{Table}
+use Rattle.lines.specs.declared.Table.{Table}
 
 module _ (messages : List (List ℕ)) where
   -- a table has its header and every message's bytes
@@ -33,8 +34,8 @@ module _ (messages : List (List ℕ)) where
     pub each : (i : ℕ) → i < length messages → message table i ≡ get_or messages i []
 
   -- what is returned, and what stands at the start of the buffer
-  pub record Makes (made : Made) (buffer : List ℕ) : Type 0 where
-    pub returned : made ≡ Table (length messages) table_length
+  pub record Makes (made : Result Table Fault) (buffer : List ℕ) : Type 0 where
+    pub returned : made ≡ good (length messages) table_length
     pub holds : Holds (take table_length buffer)
 
 -- ---- what is told where no table is made
@@ -46,7 +47,7 @@ module _ (messages : List (List ℕ)) where
     pub utf8 : (i : ℕ) → i < n → Utf8 (get_or messages i [])
 
   -- the lines before the one that is told would fit, and it has the fault that is told, and none that is looked for before that one
-  pub data FirstFault (fault : Fault) (line : ℕ) : Type 0 where
+  pub data FirstFault (fault : FaultKind) (line : ℕ) : Type 0 where
     no_line : fault ≡ NoLine → line ≡ 1 → length messages ≡ 0 → FirstFault fault line
     too_many : fault ≡ TooMany → line ≡ most_messages + 1 → line ≤ length messages → FirstFit most_messages → FirstFault fault line
     too_long : (n : ℕ) → fault ≡ TooLong → line ≡ n + 1 → line ≤ length messages → FirstFit n

@@ -1,21 +1,24 @@
 // A table of texts made of lines, one message a line.
 #![tactic(auto)]
 
-ghost use Rattle.std.specs.Prelude.{◌≡◌, ◌+◌, ◌≤◌, length, drop};
+ghost use Rattle.std.specs.Prelude.{◌≡◌, ◌+◌, ◌≤◌, Some, eqb, length, drop, position};
 ghost use mathlib.Core.List.{flatten};
 ghost use Rattle.layout.specs.Layout.{written};
 ghost use Rattle.texts.specs.Table.{most_bytes};
-ghost use Rattle.lines.specs.Lines.{lines, first_line};
+ghost use Rattle.lines.specs.Lines.{line_end, lines, first_line};
 ghost use Rattle.lines.specs.Table.{offsets, table_of, Room};
 ghost use Rattle.lines.specs.Made.{made, bytes_of};
+ghost use Rattle.lines.specs.Told.{words_of, told};
 
+use std::fmt;
+use std::fmt::Display;
 use texts::{MOST_BYTES, MOST_MESSAGES};
 
 const LINE_END: u8 = b'\n';
 
 // What can be wrong with a text.
-#[derive(Clone, Copy)]
-pub enum Fault {
+#[derive(Clone, Copy, PartialEq, Eq)]
+pub enum FaultKind {
     // there is no line
     NoLine,
     // there are more than 64 lines
@@ -25,13 +28,59 @@ pub enum Fault {
     NotUtf8,
 }
 
-// What is made of a text.
-#[derive(Clone, Copy)]
-pub enum Made {
-    // a table of so many messages, so many bytes long
-    Table(usize, usize),
-    // nothing: what is wrong, and in which line, from 1
-    Bad(Fault, usize),
+// What is wrong, and in which line, from 1.
+#[derive(Clone, Copy, PartialEq, Eq)]
+pub struct Fault {
+    pub kind: FaultKind,
+    pub line: usize,
+}
+
+// A table that was made: of so many messages, so many bytes long.
+#[derive(Clone, Copy, PartialEq, Eq)]
+pub struct Table {
+    pub count: usize,
+    pub length: usize,
+}
+
+impl FaultKind {
+    fn in_line(self, line: usize) -> Fault
+        ensures { result ≡ record { kind = self; line = line } }
+    {
+        Fault {
+            kind: self,
+            line: line,
+        }
+    }
+}
+
+impl Display for FaultKind {
+    ghost output = { λ kind. Some (words_of kind) };
+
+    fn fmt<W: fmt::Write>(&self, f: &mut fmt::Formatter<W>) -> fmt::Result {
+        f.write_str(match self {
+            FaultKind::NoLine => "there is none, and a table has at least one message",
+            FaultKind::TooMany => "one too many, a table has at most 64 messages",
+            FaultKind::TooLong => "the table would be longer than 65535 bytes",
+            FaultKind::NotUtf8 => "it is not UTF-8",
+        })
+    }
+}
+
+impl Display for Fault {
+    ghost output = { λ fault. Some (told fault) };
+
+    fn fmt<W: fmt::Write>(&self, f: &mut fmt::Formatter<W>) -> fmt::Result {
+        let line = self.line;
+        let kind = self.kind;
+        write!(f, "line {line}: {kind}")
+    }
+}
+
+// How long the first line is that has an end.
+fn first_end(text: &[u8]) -> Option<usize>
+    ensures { result ≡ position (λ byte. eqb byte line_end) text.now }
+{
+    text.iter().position(|byte| *byte == LINE_END)
 }
 
 // Where the line ends that begins at a place.
@@ -39,44 +88,44 @@ fn line_end(text: &[u8], at: usize) -> usize
     requires { at ≤ length text.now }
     ensures { (result ≡ at + length (first_line (drop at text.now))) × (result ≤ length text.now) }
 {
-    let mut end = at;
-    while end < text.len() {
-        if text[end] == LINE_END {
-            return end;
-        }
-        end += 1;
+    match first_end(&text[at..]) {
+        Some(length) => at + length,
+        None => text.len(),
     }
-    end
 }
 
 // What a table made of the text would be, or its first fault.
 #[tactic(auto, using(crate::proofs::Judged::turn_many, crate::proofs::Judged::turn_long))]
-fn judge(text: &[u8]) -> Made
+fn judge(text: &[u8]) -> Result<Table, Fault>
     ensures { result ≡ made text.now }
 {
-    if text.len() == 0 {
-        return Made::Bad(Fault::NoLine, 1);
+    if text.is_empty() {
+        return Err(FaultKind::NoLine.in_line(1));
     }
     let mut count = 0;
     let mut bytes = 0;
     let mut at = 0;
+    // a `while`: a turn goes on by a line, whatever its length
     while at < text.len() {
         let end = line_end(text, at);
         let line = count + 1;
         if MOST_MESSAGES < line {
-            return Made::Bad(Fault::TooMany, line);
+            return Err(FaultKind::TooMany.in_line(line));
         }
         if MOST_BYTES < texts::header_width(line) + bytes + (end - at) {
-            return Made::Bad(Fault::TooLong, line);
+            return Err(FaultKind::TooLong.in_line(line));
         }
         if !utf8::is_utf8(text, at, end) {
-            return Made::Bad(Fault::NotUtf8, line);
+            return Err(FaultKind::NotUtf8.in_line(line));
         }
         count = line;
         bytes += end - at;
         at = end + 1;
     }
-    Made::Table(count, texts::header_width(count) + bytes)
+    Ok(Table {
+        count: count,
+        length: texts::header_width(count) + bytes,
+    })
 }
 
 // Writes the offset of each message behind the count, the first as given, and the end of the last.
@@ -87,6 +136,7 @@ fn put_offsets(text: &[u8], first: usize, table: &mut [u8])
     let mut offset = first;
     let mut place = 2;
     let mut at = 0;
+    // a `while`: a turn goes on by a line, whatever its length
     while at < text.len() {
         layout::put_u16(table, place, offset as u16);
         let end = line_end(text, at);
@@ -104,13 +154,11 @@ fn put_messages(text: &[u8], from: usize, table: &mut [u8])
     ensures { table.new ≡ written table.old from (flatten (lines text.now)) }
 {
     let mut to = from;
-    let mut at = 0;
-    while at < text.len() {
-        if text[at] != LINE_END {
-            table[to] = text[at];
+    for byte in text {
+        if *byte != LINE_END {
+            table[to] = *byte;
             to += 1;
         }
-        at += 1;
     }
 }
 
@@ -126,14 +174,11 @@ fn put_table(text: &[u8], count: usize, table: &mut [u8])
 }
 
 // Makes the table of the text's lines at the start of `table`, or finds the first fault and writes nothing.
-pub fn make(text: &[u8], table: &mut [u8; MOST_BYTES]) -> Made
+pub fn make(text: &[u8], table: &mut [u8; MOST_BYTES]) -> Result<Table, Fault>
     ensures made { result ≡ made text.now }
     ensures table { table.new ≡ written table.old 0 (bytes_of (made text.now) (lines text.now)) }
 {
-    let made = judge(text);
-    let Made::Table(count, _) = made else {
-        return made;
-    };
-    put_table(text, count, table);
-    made
+    let made = judge(text)?;
+    put_table(text, made.count, table);
+    Ok(made)
 }

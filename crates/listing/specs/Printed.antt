@@ -21,6 +21,11 @@ number_column number = cond (ltb number 10) (spaces 1) [] ++ (decimal number ++ 
 unfoldable pub beside : List ℕ → ℕ → List ℕ → List ℕ
 beside left width right = spaces (width - characters left) ++ (spaces 2 ++ right)
 
+-- a line with a message's number and a text of each table, the first's in so wide a column
+unfoldable pub side_by_side : ℕ → List ℕ → ℕ → List ℕ → List ℕ
+side_by_side number left width right =
+    number_column number ++ (left ++ (cond (eqb (length right) 0) [] (beside left width right) ++ line_end))
+
 module _ (first second : List ℕ) where
   abbrev pub refusal_of : ℕ → ℕ → ℕ
   refusal_of language number = (text_place (chosen language first second) language number).refusal
@@ -36,11 +41,9 @@ module _ (first second : List ℕ) where
   widest zero = 0
   widest (suc number) = max (widest number) (characters (text_of 1 number))
 
-  -- a line with a message of both tables, the first's in so wide a column
+  -- a line with a message of both tables
   unfoldable pub shown : ℕ → ℕ → List ℕ
-  shown width number =
-      number_column number
-      ++ (text_of 1 number ++ (cond (eqb (length (text_of 2 number)) 0) [] (beside (text_of 1 number) width (text_of 2 number)) ++ line_end))
+  shown width number = side_by_side number (text_of 1 number) width (text_of 2 number)
 
   -- none where neither table has it
   unfoldable pub row : ℕ → ℕ → List ℕ

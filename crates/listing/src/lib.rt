@@ -4,11 +4,13 @@
 
 ghost use Rattle.std.specs.Prelude.{◌≡◌, ◌++◌, OnOk};
 ghost use Rattle.std.specs.Io.KnownBytes.{Appends};
-ghost use Rattle.listing.specs.Printed.{line_end, spaces, refused, number_column, beside, one, widest, row, all};
+ghost use Rattle.refusal.specs.Number.{number, number_of};
+ghost use Rattle.listing.specs.Printed.{line_end, spaces, refused, number_column, beside, side_by_side, one, widest, row, all_refusal, all};
 
+use refusal::Refusal;
 use std::io;
 use std::io::Write;
-use texts::MOST_MESSAGES;
+use texts::{MOST_MESSAGES, Tables};
 
 const MOST_SPACES: usize = 16;
 
@@ -17,71 +19,61 @@ const SPACES: [u8; MOST_SPACES] = [b' '; MOST_SPACES];
 const MOST_ROWS: u32 = MOST_MESSAGES as u32;
 
 #[tactic(auto, unfolding(crate::specs::Printed::refused))]
-fn print_refused<W: Write>(out: &mut W, refusal: u8, end: &[u8]) -> io::Result<()>
-    ensures bytes { OnOk result (Appends (W.contents out.old) (W.contents out.new) (refused refusal end.now)) }
+fn print_refused<W: Write>(out: &mut W, refusal: Refusal, end: &[u8]) -> io::Result<()>
+    ensures bytes { OnOk result (Appends (W.contents out.old) (W.contents out.new) (refused (number refusal) end.now)) }
 {
+    let told = u8::from(refusal);
     out.write_all(b"refused ")?;
-    write!(out, "{refusal}")?;
+    write!(out, "{told}")?;
     out.write_all(end)
 }
 
 fn print_spaces<W: Write>(out: &mut W, count: usize) -> io::Result<()>
     ensures bytes { OnOk result (Appends (W.contents out.old) (W.contents out.new) (spaces count)) }
 {
-    let mut left = count;
-    while left > MOST_SPACES {
+    for _ in 0..count / MOST_SPACES {
         out.write_all(&SPACES)?;
-        left -= MOST_SPACES;
     }
-    out.write_all(&SPACES[..left])
+    out.write_all(&SPACES[..count % MOST_SPACES])
 }
 
-// Prints one message, or its refusal, and no line end.
-#[tactic(auto, unfolding(crate::specs::Printed::one))]
+// Prints one message, or its refusal, and no line end. The language is any number: 17 is an answer too.
 pub fn print_one<'a, W: Write>(
     out: &mut W,
-    first: &'a [u8],
-    second: &'a [u8],
+    tables: Tables<'a>,
     language: u32,
     number: u32,
 ) -> io::Result<()>
-    ensures bytes { OnOk result (Appends (W.contents out.old) (W.contents out.new) (one first.now second.now language number)) }
+    ensures bytes { OnOk result (Appends (W.contents out.old) (W.contents out.new) (one tables.entry.first.now tables.entry.second.now language number)) }
 {
-    let mut refusal = 0u8;
-    let text = texts::text(first, second, language, number, &mut refusal);
-    if refusal != 0 {
-        return print_refused(out, refusal, b"");
+    match tables.text(language, number) {
+        Ok(text) => out.write_all(text),
+        Err(refusal) => print_refused(out, refusal, b""),
     }
-    out.write_all(text)
 }
 
 // Prints one message, or its refusal, as a line.
 pub fn show_one<'a, W: Write>(
     out: &mut W,
-    first: &'a [u8],
-    second: &'a [u8],
+    tables: Tables<'a>,
     language: u32,
     number: u32,
 ) -> io::Result<()>
-    ensures bytes { OnOk result (Appends (W.contents out.old) (W.contents out.new) (one first.now second.now language number ++ line_end)) }
+    ensures bytes { OnOk result (Appends (W.contents out.old) (W.contents out.new) (one tables.entry.first.now tables.entry.second.now language number ++ line_end)) }
 {
-    print_one(out, first, second, language, number)?;
+    print_one(out, tables, language, number)?;
     out.write_all(b"\n")
 }
 
 // How many characters the longest text of the first table has.
 #[tactic(auto, unfolding(crate::specs::Printed::widest))]
-fn widest<'a>(first: &'a [u8], second: &'a [u8]) -> usize
-    ensures { result ≡ widest first.now second.now 64 }
+fn widest<'a>(tables: Tables<'a>) -> usize
+    ensures { result ≡ widest tables.entry.first.now tables.entry.second.now 64 }
 {
     let mut most = 0;
     for number in 0..MOST_ROWS {
-        let mut refusal = 0u8;
-        let text = texts::text(first, second, 1, number, &mut refusal);
-        let width = utf8::characters(text);
-        if most < width {
-            most = width;
-        }
+        let text = tables.text(1, number).unwrap_or(b"");
+        most = most.max(utf8::characters(text));
     }
     most
 }
@@ -111,24 +103,17 @@ fn print_beside<W: Write>(out: &mut W, left: &[u8], width: usize, right: &[u8]) 
     out.write_all(right)
 }
 
-// Prints a message of both tables, the first's in so wide a column; nothing where neither table has it.
-#[tactic(auto, unfolding(crate::specs::Printed::row, crate::specs::Printed::shown))]
-fn show_row<'a, W: Write>(
+// Prints a message's number and a text of each table, the first's in so wide a column.
+#[tactic(auto, unfolding(crate::specs::Printed::side_by_side))]
+fn print_row<W: Write>(
     out: &mut W,
-    first: &'a [u8],
-    second: &'a [u8],
     number: u32,
+    left: &[u8],
     width: usize,
+    right: &[u8],
 ) -> io::Result<()>
-    ensures bytes { OnOk result (Appends (W.contents out.old) (W.contents out.new) (row first.now second.now width number)) }
+    ensures bytes { OnOk result (Appends (W.contents out.old) (W.contents out.new) (side_by_side number left.now width right.now)) }
 {
-    let mut left_refused = 0u8;
-    let left = texts::text(first, second, 1, number, &mut left_refused);
-    let mut right_refused = 0u8;
-    let right = texts::text(first, second, 2, number, &mut right_refused);
-    if (left_refused != 0) & (right_refused != 0) {
-        return Ok(());
-    }
     print_number(out, number)?;
     out.write_all(left)?;
     if right.len() != 0 {
@@ -137,23 +122,49 @@ fn show_row<'a, W: Write>(
     out.write_all(b"\n")
 }
 
-// Prints every message of both tables, or the refusal of one that is bad.
-#[tactic(auto, unfolding(crate::specs::Printed::all, crate::specs::Printed::all_refusal, crate::specs::Printed::rows))]
-pub fn show_all<'a, W: Write>(out: &mut W, first: &'a [u8], second: &'a [u8]) -> io::Result<()>
-    ensures bytes { OnOk result (Appends (W.contents out.old) (W.contents out.new) (all first.now second.now)) }
+// Prints a message of both tables; nothing where neither table has it.
+fn show_row<'a, W: Write>(
+    out: &mut W,
+    tables: Tables<'a>,
+    number: u32,
+    width: usize,
+) -> io::Result<()>
+    ensures bytes { OnOk result (Appends (W.contents out.old) (W.contents out.new) (row tables.entry.first.now tables.entry.second.now width number)) }
 {
-    // a good table has a message 0
-    let mut refusal = 0u8;
-    texts::text(first, second, 1, 0, &mut refusal);
-    if refusal == 0 {
-        texts::text(first, second, 2, 0, &mut refusal);
+    let left = tables.text(1, number);
+    let right = tables.text(2, number);
+    if left.is_err() & right.is_err() {
+        return Ok(());
     }
-    if refusal != 0 {
+    print_row(
+        out,
+        number,
+        left.unwrap_or(b""),
+        width,
+        right.unwrap_or(b""),
+    )
+}
+
+// Whether both tables are good, and so have a message 0.
+fn both_good<'a>(tables: Tables<'a>) -> Result<(), Refusal>
+    ensures { number_of result ≡ all_refusal tables.entry.first.now tables.entry.second.now }
+{
+    tables.text(1, 0)?;
+    tables.text(2, 0)?;
+    Ok(())
+}
+
+// Prints every message of both tables, or the refusal of one that is bad.
+#[tactic(auto, unfolding(crate::specs::Printed::rows))]
+pub fn show_all<'a, W: Write>(out: &mut W, tables: Tables<'a>) -> io::Result<()>
+    ensures bytes { OnOk result (Appends (W.contents out.old) (W.contents out.new) (all tables.entry.first.now tables.entry.second.now)) }
+{
+    if let Err(refusal) = both_good(tables) {
         return print_refused(out, refusal, b"\n");
     }
-    let width = widest(first, second);
+    let width = widest(tables);
     for number in 0..MOST_ROWS {
-        show_row(out, first, second, number, width)?;
+        show_row(out, tables, number, width)?;
     }
     Ok(())
 }

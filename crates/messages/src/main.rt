@@ -7,46 +7,26 @@
 use std::io;
 use std::io::Write;
 use std::rt::Env;
-use texts::MOST_BYTES;
+use texts::{MOST_BYTES, Tables};
 
-// What a word says.
-#[derive(Clone, Copy)]
-enum Said {
-    Number(u32),
-    Nothing,
-}
-
-const MOST_NUMBER: u64 = 4294967295;
-
-// The number that a word says in decimal, where a u32 holds it.
-fn number_of(word: &[u8]) -> Said {
-    if word.len() == 0 {
-        return Said::Nothing;
+// The number that a word says in decimal, where a u32 holds it. It takes no sign: std's `parse` takes `+5` for 5.
+fn number_of(word: &[u8]) -> Option<u32> {
+    if word.is_empty() {
+        return None;
     }
-    let mut number: u64 = 0;
-    for x in word {
-        let byte = *x;
-        if byte < b'0' {
-            return Said::Nothing;
-        }
-        if b'9' < byte {
-            return Said::Nothing;
-        }
-        number = 10 * number + ((byte - b'0') as u64);
-        if MOST_NUMBER < number {
-            return Said::Nothing;
-        }
+    let mut number: u32 = 0;
+    for byte in word {
+        let digit = (*byte as char).to_digit(10)?;
+        number = number.checked_mul(10)?.checked_add(digit)?;
     }
-    Said::Number(number as u32)
+    Some(number)
 }
 
 // The number that an argument says.
-fn number_at<R: Env>(rt: &R, argument: usize) -> Said {
+fn number_at<R: Env>(rt: &R, argument: usize) -> Option<u32> {
     let mut word = [0u8; 16];
-    match rt.arg(argument, &mut word) {
-        Ok(n) => number_of(&word[..n]),
-        Err(_) => Said::Nothing,
-    }
+    let n = rt.arg(argument, &mut word).ok()?;
+    number_of(&word[..n])
 }
 
 fn usage(rt: HostRuntime) {
@@ -72,27 +52,24 @@ fn main(rt: HostRuntime) {
     let mut first = [0u8; MOST_BYTES + 1];
     let mut second = [0u8; MOST_BYTES + 1];
     let mut err = rt.stderr();
-    let Some(n) = tables::load(&rt, &mut err, b"messages", 1, &mut first) else {
+    let Some(first) = tables::load(&rt, &mut err, b"messages", 1, &mut first) else {
         return;
     };
-    let Some(m) = tables::load(&rt, &mut err, b"messages", 2, &mut second) else {
+    let Some(second) = tables::load(&rt, &mut err, b"messages", 2, &mut second) else {
         return;
+    };
+    let tables = Tables {
+        first: first,
+        second: second,
     };
     let mut out = rt.stdout();
     if words == 3 {
-        written(rt, listing::show_all(&mut out, &first[..n], &second[..m]));
+        written(rt, listing::show_all(&mut out, tables));
         return;
     }
-    let Said::Number(language) = number_at(&rt, 3) else {
+    let (Some(language), Some(number)) = (number_at(&rt, 3), number_at(&rt, 4)) else {
         usage(rt);
         return;
     };
-    let Said::Number(number) = number_at(&rt, 4) else {
-        usage(rt);
-        return;
-    };
-    written(
-        rt,
-        listing::show_one(&mut out, &first[..n], &second[..m], language, number),
-    );
+    written(rt, listing::show_one(&mut out, tables, language, number));
 }

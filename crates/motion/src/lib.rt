@@ -2,12 +2,12 @@
 #![tactic(auto)]
 
 ghost use Rattle.std.specs.Prelude.{◌≡◌, ◌≤◌};
-ghost use Rattle.card.specs.Card.{long_wait, CardRanges};
-ghost use Rattle.record.specs.Record.{RecordRanges};
+ghost use Rattle.card.specs.Card.{long_wait};
 ghost use Rattle.motion.specs.Direction.{most_wrongway, agrees, step_9_direction};
 ghost use Rattle.motion.specs.Standing.{step_9_standing};
 
 use card::Card;
+use ranges::InRange;
 use record::{Keys, Record};
 
 // The wrong-way distance d after step 9, and whether it triggers NZ3.
@@ -39,18 +39,23 @@ fn agrees(reading: Record, keys: Keys) -> bool
 
 // Step 9, NZ3.
 #[tactic(auto, unfolding(crate::specs::Direction::wrongway_now, crate::specs::Direction::wrongway_triggers))]
-pub fn step_9_direction(mode: u8, reading: Record, keys: Keys, wrongway: u16) -> DirectionStep
-    requires { RecordRanges reading × (wrongway ≤ most_wrongway) }
-    ensures { (result ≡ step_9_direction mode reading keys wrongway) × (result.wrongway ≤ most_wrongway) }
+pub fn step_9_direction(
+    mode: u8,
+    reading: InRange<Record>,
+    keys: Keys,
+    wrongway: u16,
+) -> DirectionStep
+    requires { wrongway ≤ most_wrongway }
+    ensures { (result ≡ step_9_direction mode reading.it keys wrongway) × (result.wrongway ≤ most_wrongway) }
 {
-    if record::pre_or_vyl(mode) & (0 < reading.v) {
-        if agrees(reading, keys) {
+    if record::pre_or_vyl(mode) & (0 < reading.it.v) {
+        if agrees(reading.it, keys) {
             return DirectionStep {
                 wrongway: 0,
                 triggers: false,
             };
         }
-        let far = numbers::lesser(MOST_WRONGWAY, wrongway + reading.v);
+        let far = MOST_WRONGWAY.min(wrongway + reading.it.v);
         return DirectionStep {
             wrongway: far,
             triggers: far == MOST_WRONGWAY,
@@ -63,25 +68,32 @@ pub fn step_9_direction(mode: u8, reading: Record, keys: Keys, wrongway: u16) ->
 }
 
 // Step 9, NZ5. A wait is longer than ZS20, so a count of 0 neither triggers nor sounds.
+#[tactic(auto,
+// a wait has at least 250 ticks
+using(card::proofs::Ranges::wait_between), unfolding(
+// h after the tick
+crate::specs::Standing::counted, crate::specs::Standing::standing_now,
+// what h brings about
+crate::specs::Standing::standing_triggers, crate::specs::Standing::standing_sounds))]
 pub fn step_9_standing(
-    card: Card,
+    card: InRange<Card>,
     mode: u8,
     reading: Record,
     keys: Keys,
     held: bool,
     standing: u16,
 ) -> StandingStep
-    requires { CardRanges card × (standing ≤ long_wait) }
-    ensures { (result ≡ step_9_standing card mode reading keys held standing) × (result.standing ≤ long_wait) }
+    requires { standing ≤ long_wait }
+    ensures { (result ≡ step_9_standing card.it mode reading keys held standing) × (result.standing ≤ long_wait) }
 {
     if record::pre_or_vyl(mode) {
         let unbraked = (reading.v == 0) & !keys.brake & (reading.band == record::TOP_BAND);
         if unbraked & !(keys.vigilance & held) {
-            let count = numbers::lesser(card.wait, standing + 1);
+            let count = card.it.wait.min(standing + 1);
             return StandingStep {
                 standing: count,
-                triggers: count == card.wait,
-                sounds: card.wait - ZS20_TICKS <= count,
+                triggers: count == card.it.wait,
+                sounds: card.it.wait - ZS20_TICKS <= count,
             };
         }
         return StandingStep {

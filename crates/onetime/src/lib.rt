@@ -2,23 +2,24 @@
 #![tactic(auto)]
 
 ghost use Rattle.std.specs.Prelude.{◌≡◌, ◌≤◌};
-ghost use Rattle.card.specs.Card.{CardRanges};
-ghost use Rattle.reading.specs.Speed.{top_speed};
-ghost use Rattle.signal.specs.Ranges.{farthest_ahead, CurveRanges};
+ghost use Rattle.signal.specs.Ranges.{farthest_ahead};
 ghost use Rattle.onetime.specs.Ranges.{PromptRanges, OneTimeStepRanges, prompt_in_range};
+ghost use Rattle.onetime.specs.Laws.{prompt_laws};
 ghost use Rattle.onetime.specs.OneTime.{lead, exceeds, due_ahead, due_at_start, step_8_one_time};
 
 use card::Card;
+use ranges::{InRange, Ranged};
+use reading::Speed;
 use record::Keys;
 use signal::Curve;
 
 // The prompt of one-time vigilance.
 #[repr(C)]
-#[derive(Clone, Copy)]
+#[derive(Clone, Copy, Default, PartialEq, Eq)]
 pub struct Prompt {
     // u, 1 from the tick in which the prompt comes; 0: no prompt
     pub ticks: u8,
-    // 0 at the curve's start, 1 ahead of the curve
+    // 0 at the curve's start, 1 ahead of the curve: a number, which C reads in `foldharbor_prompt` and may hand over out of range
     pub kind: u8,
 }
 
@@ -38,10 +39,16 @@ const MOST_PROMPT: u8 = 35;
 // A prompt lapses when its u comes to this.
 const LAPSE: u8 = 35;
 
-pub fn prompt_in_range(prompt: Prompt) -> bool
-    ensures { result ≡ prompt_in_range prompt }
-{
-    (prompt.ticks <= MOST_PROMPT) & (prompt.kind <= 1)
+impl Ranged for Prompt {
+    ghost ranges = { PromptRanges };
+
+    ghost test = { prompt_in_range };
+
+    ghost laws = { prompt_laws };
+
+    fn in_range(self) -> bool {
+        (self.ticks <= MOST_PROMPT) & (self.kind <= 1)
+    }
 }
 
 #[tactic(auto, unfolding(crate::specs::OneTime::lead))]
@@ -56,82 +63,97 @@ fn lead(card: Card) -> u32
 
 // Compared by squares, so that no root is needed.
 #[tactic(auto, using(crate::proofs::Squares::exceeds_by_squares, crate::proofs::Squares::slow_never))]
-fn exceeds(card: Card, curve: Curve, t: u16, v: u16, driven: u32) -> bool
-    requires { CardRanges card × CurveRanges curve × (t ≤ top_speed) × (v ≤ top_speed) × (driven ≤ farthest_ahead) }
-    ensures { result ≡ exceeds card curve t v driven }
+fn exceeds(card: InRange<Card>, curve: InRange<Curve>, t: Speed, v: Speed, driven: u32) -> bool
+    requires { driven ≤ farthest_ahead }
+    ensures { result ≡ exceeds card.it curve.it t.tenths v.tenths driven }
 {
-    if v <= card.tolerance {
+    if v.tenths <= card.it.tolerance {
         return false;
     }
     let bound = signal::curve_bound(card, curve, t, driven);
-    bound < signal::five_squares(v - card.tolerance)
+    bound < signal::five_squares(v.tenths - card.it.tolerance)
 }
 
 // Step 8, with a curve: whether the prompt ahead of the curve is due.
 #[tactic(auto, unfolding(crate::specs::OneTime::due_ahead))]
-fn due_ahead(card: Card, curve: Curve, t: u16, v: u16) -> bool
-    requires { CardRanges card × CurveRanges curve × (t ≤ top_speed) × (v ≤ top_speed) }
-    ensures { result ≡ due_ahead card curve t v }
+fn due_ahead(card: InRange<Card>, curve: InRange<Curve>, t: Speed, v: Speed) -> bool
+    ensures { result ≡ due_ahead card.it curve.it t.tenths v.tenths }
 {
-    if curve.prompted == 0 {
-        let lead = lead(card);
-        return exceeds(card, curve, t, v, curve.driven + (v as u32) * lead);
+    if curve.it.prompted == 0 {
+        let lead = lead(card.it);
+        return exceeds(
+            card,
+            curve,
+            t,
+            v,
+            curve.it.driven + (v.tenths as u32) * lead,
+        );
     }
     false
 }
 
 // Step 8, with a curve: whether the prompt at the curve's start is due.
 #[tactic(auto, unfolding(crate::specs::OneTime::due_at_start))]
-fn due_at_start(card: Card, curve: Curve, begins: bool, t: u16, v: u16) -> bool
-    requires { CardRanges card × CurveRanges curve × (t ≤ top_speed) × (v ≤ top_speed) }
-    ensures { result ≡ due_at_start card curve t v begins }
+fn due_at_start(
+    card: InRange<Card>,
+    curve: InRange<Curve>,
+    begins: bool,
+    t: Speed,
+    v: Speed,
+) -> bool
+    ensures { result ≡ due_at_start card.it curve.it t.tenths v.tenths begins }
 {
     if begins {
-        let lead = lead(card);
-        let late = exceeds(card, curve, t, v, (v as u32) * (99 + lead));
-        return !late & (t + card.tolerance < v);
+        let lead = lead(card.it);
+        let late = exceeds(card, curve, t, v, (v.tenths as u32) * (99 + lead));
+        return !late & (t.tenths + card.it.tolerance < v.tenths);
     }
     false
 }
 
 // Step 8.
+#[tactic(auto, unfolding(
+// what becomes of a prompt
+crate::specs::OneTime::prompt_lapses, crate::specs::OneTime::prompt_stays,
+// which one comes
+crate::specs::OneTime::asks_ahead, crate::specs::OneTime::asks_at_start,
+// what the next tick starts from
+crate::specs::OneTime::prompt_ticks_next, crate::specs::OneTime::prompt_kind_next, crate::specs::OneTime::prompted_next))]
 pub fn step_8_one_time(
-    card: Card,
-    curve: Curve,
+    card: InRange<Card>,
+    curve: InRange<Curve>,
     begins: bool,
-    t: u16,
-    v: u16,
+    t: Speed,
+    v: Speed,
     keys: Keys,
-    prompt: Prompt,
+    prompt: InRange<Prompt>,
 ) -> OneTimeStep
-    requires { CardRanges card × CurveRanges curve × (t ≤ top_speed) × (v ≤ top_speed) × PromptRanges prompt }
-    ensures { (result ≡ step_8_one_time card curve begins t v keys prompt) × OneTimeStepRanges result }
+    ensures { (result ≡ step_8_one_time card.it curve.it begins t.tenths v.tenths keys prompt.it) × OneTimeStepRanges result }
 {
-    if 0 < prompt.ticks {
+    let quiet = OneTimeStep {
+        prompt: Prompt::default(),
+        prompted: curve.it.prompted,
+        lapses: false,
+    };
+    if 0 < prompt.it.ticks {
         if keys.vigilance {
-            return OneTimeStep {
-                prompt: Prompt { ticks: 0, kind: 0 },
-                prompted: curve.prompted,
-                lapses: false,
-            };
+            return quiet;
         }
-        if LAPSE <= prompt.ticks + 1 {
+        if LAPSE <= prompt.it.ticks + 1 {
             return OneTimeStep {
-                prompt: Prompt { ticks: 0, kind: 0 },
-                prompted: curve.prompted,
                 lapses: true,
+                ..quiet
             };
         }
         return OneTimeStep {
             prompt: Prompt {
-                ticks: prompt.ticks + 1,
-                kind: prompt.kind,
+                ticks: prompt.it.ticks + 1,
+                kind: prompt.it.kind,
             },
-            prompted: curve.prompted,
-            lapses: false,
+            ..quiet
         };
     }
-    if 0 < curve.start {
+    if 0 < curve.it.start {
         if due_ahead(card, curve, t, v) {
             return OneTimeStep {
                 prompt: Prompt { ticks: 1, kind: 1 },
@@ -142,19 +164,9 @@ pub fn step_8_one_time(
         if due_at_start(card, curve, begins, t, v) {
             return OneTimeStep {
                 prompt: Prompt { ticks: 1, kind: 0 },
-                prompted: curve.prompted,
-                lapses: false,
+                ..quiet
             };
         }
-        return OneTimeStep {
-            prompt: Prompt { ticks: 0, kind: 0 },
-            prompted: curve.prompted,
-            lapses: false,
-        };
     }
-    OneTimeStep {
-        prompt: Prompt { ticks: 0, kind: 0 },
-        prompted: curve.prompted,
-        lapses: false,
-    }
+    quiet
 }

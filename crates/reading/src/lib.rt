@@ -1,12 +1,12 @@
 // What the two floats of a cab sample say, exactly: each is read by comparison and by its bits, and never by float arithmetic.
 #![tactic(auto)]
 
-ghost use Rattle.std.specs.Prelude.{◌≡◌};
+ghost use Rattle.std.specs.Prelude.{◌≡◌, ◌≤◌};
 ghost use Rattle.reading.specs.Bits.{float_of_bits};
-ghost use Rattle.reading.specs.Speed.{speed_of, speed_refusal, speed_value};
-ghost use Rattle.reading.specs.Pressure.{pressure_of, pressure_refusal, pressure_band};
+ghost use Rattle.reading.specs.Speed.{top_speed, speed_of};
+ghost use Rattle.reading.specs.Pressure.{pressure_of};
 
-use refusal::{BAD_PRESSURE, BAD_SPEED};
+use refusal::Refusal;
 
 // An f32 is 23 bits of digits, 8 of exponent and one of sign.
 // 2^23: where the exponent begins, and the weight of the leading digit, which has no bit
@@ -28,18 +28,19 @@ pub fn float_of_bits(bits: u32) -> f32
     f32::from_bits(bits)
 }
 
-// v in tenths of km/h, or no speed.
-#[derive(Clone, Copy)]
-pub enum Speed {
-    Tenths(u16),
-    Refused,
-}
-
 // The greatest v: 250 km/h.
 pub const TOP_SPEED: u16 = 2500;
 
+// A speed that a train can have.
+#[derive(Clone, Copy)]
+pub struct Speed {
+    // of km/h
+    pub tenths: u16,
+    pub ghost in_range: { tenths ≤ top_speed },
+}
+
 // v of x m/s: 36x rounded to the nearest whole number, a half up.
-pub fn speed_of(x: f32) -> Speed
+pub fn speed_of(x: f32) -> Result<u16, Refusal>
     ensures { result ≡ speed_of x }
 {
     // a NaN fails this test, and minus zero passes it
@@ -48,11 +49,11 @@ pub fn speed_of(x: f32) -> Speed
         let exponent: u32 = bits % SIGN / LEADING;
         // below 1/128 m/s: 36x + 1/2 is below 1
         if exponent < 120 {
-            return Speed::Tenths(0);
+            return Ok(0);
         }
         // 128 m/s and above, infinity too: v would be above 4600
         if exponent > 133 {
-            return Speed::Refused;
+            return Err(Refusal::BadSpeed);
         }
         // x is digits / 2^(150 - exponent)
         let digits: u32 = LEADING + bits % LEADING;
@@ -60,78 +61,27 @@ pub fn speed_of(x: f32) -> Speed
         let twice: u32 = (72 * digits) >> (150 - exponent);
         let v: u32 = (twice + 1) / 2;
         if v <= TOP_SPEED as u32 {
-            return Speed::Tenths(v as u16);
+            return Ok(v as u16);
         }
     }
-    Speed::Refused
-}
-
-// The paper's number of the refusal, 0 where there is none.
-#[tactic(auto, unfolding(crate::specs::Speed::speed_refusal))]
-pub fn speed_refusal(speed: Speed) -> u8
-    ensures { result ≡ speed_refusal speed }
-{
-    match speed {
-        Speed::Tenths(_) => 0,
-        Speed::Refused => BAD_SPEED,
-    }
-}
-
-// v, 0 where refused.
-#[tactic(auto, unfolding(crate::specs::Speed::speed_value))]
-pub fn speed_value(speed: Speed) -> u16
-    ensures { result ≡ speed_value speed }
-{
-    match speed {
-        Speed::Tenths(v) => v,
-        Speed::Refused => 0,
-    }
-}
-
-// A band of pressure, or no pressure.
-#[derive(Clone, Copy)]
-pub enum Pressure {
-    Band(u8),
-    Refused,
+    Err(Refusal::BadSpeed)
 }
 
 // The band of x bar.
-pub fn pressure_of(x: f32) -> Pressure
+pub fn pressure_of(x: f32) -> Result<u8, Refusal>
     ensures { result ≡ pressure_of x }
 {
     // a NaN fails this test, and minus zero passes it
     if x >= 0.0 {
         if x <= 10.0 {
             if x < 3.5 {
-                return Pressure::Band(0);
+                return Ok(0);
             }
             if x < 4.5 {
-                return Pressure::Band(1);
+                return Ok(1);
             }
-            return Pressure::Band(2);
+            return Ok(2);
         }
     }
-    Pressure::Refused
-}
-
-// The paper's number of the refusal, 0 where there is none.
-#[tactic(auto, unfolding(crate::specs::Pressure::pressure_refusal))]
-pub fn pressure_refusal(pressure: Pressure) -> u8
-    ensures { result ≡ pressure_refusal pressure }
-{
-    match pressure {
-        Pressure::Band(_) => 0,
-        Pressure::Refused => BAD_PRESSURE,
-    }
-}
-
-// The band, 0 where refused.
-#[tactic(auto, unfolding(crate::specs::Pressure::pressure_band))]
-pub fn pressure_band(pressure: Pressure) -> u8
-    ensures { result ≡ pressure_band pressure }
-{
-    match pressure {
-        Pressure::Band(b) => b,
-        Pressure::Refused => 0,
-    }
+    Err(Refusal::BadPressure)
 }

@@ -2,6 +2,7 @@
 // That the output can't be written is told on standard error and ends the program.
 #![tactic(auto)]
 
+use refusal::Refusal;
 use std::io;
 use std::io::Write;
 
@@ -43,29 +44,19 @@ const PATTERNS: [u32; 35] = [
     0xffffffff, // NaN, all ones
 ];
 
-// A space, and a number or `refused`.
-fn print<W: Write>(out: &mut W, refusal: u8, number: u64) -> io::Result<()> {
-    if refusal != 0 {
-        return out.write_all(b" refused");
+// A space, and the number or `refused`.
+fn print<W: Write>(out: &mut W, read: Result<u16, Refusal>) -> io::Result<()> {
+    match read {
+        Ok(number) => write!(out, " {number}"),
+        Err(_) => out.write_all(b" refused"),
     }
-    write!(out, " {number}")
 }
 
 fn print_line<W: Write>(out: &mut W, bits: u32) -> io::Result<()> {
     let x = reading::float_of_bits(bits);
     write!(out, "{bits:08x}")?;
-    let speed = reading::speed_of(x);
-    print(
-        out,
-        reading::speed_refusal(speed),
-        reading::speed_value(speed) as u64,
-    )?;
-    let pressure = reading::pressure_of(x);
-    print(
-        out,
-        reading::pressure_refusal(pressure),
-        reading::pressure_band(pressure) as u64,
-    )?;
+    print(out, reading::speed_of(x))?;
+    print(out, reading::pressure_of(x).map(u16::from))?;
     out.write_all(b"\n")
 }
 

@@ -4,3 +4,4 @@ pub mod Flags
 pub mod Record
 pub mod Times
 pub mod Sample
+pub mod Laws

@@ -1,16 +1,17 @@
 // What the cab delivers: a sample, the record that a tick goes by, and its 8 bytes.
 #![tactic(auto)]
 
-ghost use Rattle.std.specs.Prelude.{◌≡◌, ◌+◌, ◌≤◌, length};
+ghost use Rattle.std.specs.Prelude.{◌≡◌, ◌+◌, ◌≤◌, length, IfOk};
 ghost use Rattle.record.specs.Modes.{pre_or_vyl};
 ghost use Rattle.record.specs.Flags.{keys_of};
-ghost use Rattle.record.specs.Record.{record_in_range, record_width, record_at, put_record};
-ghost use Rattle.record.specs.Sample.{record_refusal, sample_refusal, sample_record};
+ghost use Rattle.refusal.specs.Number.{number_of};
+ghost use Rattle.record.specs.Record.{RecordRanges, record_in_range, record_width, record_at, put_record};
+ghost use Rattle.record.specs.Sample.{sample_refusal, sample_record};
+ghost use Rattle.record.specs.Laws.{record_laws};
 
-use reading::{
-    TOP_SPEED, pressure_band, pressure_of, pressure_refusal, speed_of, speed_refusal, speed_value,
-};
-use refusal::{BAD_FIELD, first_refusal};
+use ranges::{InRange, Ranged};
+use reading::TOP_SPEED;
+use refusal::Refusal;
 
 // What the cab delivers at a tick: two floats and the switches.
 #[repr(C)]
@@ -29,7 +30,7 @@ pub struct Sample {
 
 // What a tick goes by, and what the journal keeps of it.
 #[repr(C)]
-#[derive(Clone, Copy)]
+#[derive(Clone, Copy, Default, PartialEq, Eq)]
 pub struct Record {
     // in tenths of km/h
     pub v: u16,
@@ -44,14 +45,7 @@ pub struct Record {
     pub sense: u8,
 }
 
-// A sample as it was taken: the number of its refusal, 0 where there is none, and its record.
-#[derive(Clone, Copy)]
-pub struct Taken {
-    pub refusal: u8,
-    pub record: Record,
-}
-
-// The codes.
+// The codes: bytes, since `Record`, `Sample` and `State`, which a C host hands over, may hold any byte in a code's place.
 pub const NONE: u8 = 0;
 
 pub const STOP: u8 = 1;
@@ -62,7 +56,7 @@ pub const FORTY: u8 = 3;
 
 pub const CLEAR: u8 = 4;
 
-// The modes.
+// The modes: bytes for the same reason.
 pub const POS: u8 = 1;
 
 pub const PRE: u8 = 2;
@@ -80,7 +74,7 @@ pub fn pre_or_vyl(mode: u8) -> bool
 // The last of the lever's places and of the senses of motion.
 const REVERSE: u8 = 2;
 
-// The weights of the flag bits.
+// The weights of the flag bits: bytes for the same reason.
 pub const VIGILANCE: u8 = 1;
 
 pub const PLUS: u8 = 2;
@@ -131,53 +125,44 @@ pub fn keys_of(flags: u8, buttons: u8) -> Keys
 // The highest band.
 pub const TOP_BAND: u8 = 2;
 
-#[tactic(auto, unfolding(crate::specs::Record::record_in_range))]
-pub fn record_in_range(reading: Record) -> bool
-    ensures { result ≡ record_in_range reading }
-{
-    (reading.v <= TOP_SPEED)
-        & (reading.code <= CLEAR)
-        & (POS <= reading.mode)
-        & (reading.mode <= ZAV)
-        & (reading.lever <= REVERSE)
-        & (reading.flags <= ALL_FLAGS)
-        & (reading.band <= TOP_BAND)
-        & (reading.sense <= REVERSE)
-}
+impl Ranged for Record {
+    ghost ranges = { RecordRanges };
 
-#[tactic(auto, unfolding(crate::specs::Sample::record_refusal))]
-fn record_refusal(reading: Record) -> u8
-    ensures { result ≡ record_refusal reading }
-{
-    if record_in_range(reading) {
-        0
-    } else {
-        BAD_FIELD
+    ghost test = { record_in_range };
+
+    ghost laws = { record_laws };
+
+    #[tactic(auto, unfolding(crate::specs::Record::record_in_range))]
+    fn in_range(self) -> bool {
+        (self.v <= TOP_SPEED)
+            & (self.code <= CLEAR)
+            & (POS <= self.mode)
+            & (self.mode <= ZAV)
+            & (self.lever <= REVERSE)
+            & (self.flags <= ALL_FLAGS)
+            & (self.band <= TOP_BAND)
+            & (self.sense <= REVERSE)
     }
 }
 
+// The record of a sample, or the first of its refusals: speed, pressure, another field.
 #[tactic(auto, unfolding(crate::specs::Sample::sample_refusal, crate::specs::Sample::sample_record))]
-pub fn take_sample(sample: Sample) -> Taken
-    ensures { (result.refusal ≡ sample_refusal sample) × (result.record ≡ sample_record sample) }
+pub fn take_sample(sample: Sample) -> Result<InRange<Record>, Refusal>
+    ensures refusal { number_of result ≡ sample_refusal sample }
+    ensures reading { IfOk result (λ reading. reading.it ≡ sample_record sample) }
 {
-    let speed = speed_of(sample.speed);
-    let pressure = pressure_of(sample.pressure);
+    let v = reading::speed_of(sample.speed)?;
+    let band = reading::pressure_of(sample.pressure)?;
     let reading = Record {
-        v: speed_value(speed),
+        v,
         code: sample.code,
         mode: sample.mode,
         lever: sample.lever,
         flags: sample.flags,
-        band: pressure_band(pressure),
+        band,
         sense: sample.sense,
     };
-    let first = speed_refusal(speed);
-    let second = pressure_refusal(pressure);
-    let third = record_refusal(reading);
-    Taken {
-        refusal: first_refusal(first, first_refusal(second, third)),
-        record: reading,
-    }
+    InRange::of(reading).ok_or(Refusal::BadField)
 }
 
 // The most ticks of a drive: twelve minutes.
@@ -204,22 +189,23 @@ pub fn record_at(bytes: &[u8], at: usize) -> Record
 }
 
 // Writes the record's 8 bytes from `at`; where they do not fit, nothing.
-#[tactic(auto, using(layout::proofs::Put::put_yes, layout::proofs::Put::put_no), unfolding(crate::specs::Record::put_record))]
+#[tactic(auto, unfolding(crate::specs::Record::put_record))]
 pub fn put_record(bytes: &mut [u8], at: usize, reading: Record)
     ensures { bytes.new ≡ put_record bytes.old at reading }
 {
-    if layout::fits(bytes.len(), at, RECORD_WIDTH) {
-        layout::put_eight(
-            bytes,
-            at,
-            layout::low_byte(reading.v),
-            layout::high_byte(reading.v),
+    let [low, high] = reading.v.to_le_bytes();
+    layout::put_if_fits(
+        bytes,
+        at,
+        [
+            low,
+            high,
             reading.code,
             reading.mode,
             reading.lever,
             reading.flags,
             reading.band,
             reading.sense,
-        );
-    }
+        ],
+    );
 }

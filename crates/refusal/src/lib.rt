@@ -1,49 +1,37 @@
-// The numbers of refusal, as the paper's table has them and from 14 on the request that brings them; 0 is none.
+// The refusals, each with its number as the paper's table has it and from 14 on the request that brings it.
 #![tactic(auto)]
 
 ghost use Rattle.std.specs.Prelude.{◌≡◌};
-ghost use Rattle.refusal.specs.Refusal.{first_refusal};
+ghost use Rattle.refusal.specs.Number.{number};
 
-pub const BAD_SPEED: u8 = 1;
+#[derive(Clone, Copy, Debug, PartialEq, Eq)]
+pub enum Refusal {
+    BadSpeed = 1,
+    BadPressure = 2,
+    BadField = 3,
+    BadCard = 4,
+    BadDesk = 5,
+    ShortJournal = 6,
+    FullJournal = 7,
+    BackTooFar = 8,
+    BadRecord = 9,
+    BadFile = 10,
+    BadTicks = 11,
+    ShortBuffer = 12,
+    NoSuchCard = 13,
+    ValveClosed = 14,
+    BadTable = 15,
+    NoSuchMessage = 16,
+    NoSuchLanguage = 17,
+    OtherDesk = 23,
+}
 
-pub const BAD_PRESSURE: u8 = 2;
+// The number that a host and a file know it by.
+impl From<Refusal> for u8 {
+    ghost from_gives = { λ refusal n. n ≡ number refusal };
 
-pub const BAD_FIELD: u8 = 3;
-
-pub const BAD_CARD: u8 = 4;
-
-pub const BAD_DESK: u8 = 5;
-
-pub const SHORT_JOURNAL: u8 = 6;
-
-pub const FULL_JOURNAL: u8 = 7;
-
-pub const BACK_TOO_FAR: u8 = 8;
-
-pub const BAD_RECORD: u8 = 9;
-
-pub const BAD_FILE: u8 = 10;
-
-pub const BAD_TICKS: u8 = 11;
-
-pub const SHORT_BUFFER: u8 = 12;
-
-pub const NO_SUCH_CARD: u8 = 13;
-
-pub const VALVE_CLOSED: u8 = 14;
-
-pub const BAD_TABLE: u8 = 15;
-
-pub const NO_SUCH_MESSAGE: u8 = 16;
-
-pub const NO_SUCH_LANGUAGE: u8 = 17;
-
-pub const OTHER_DESK: u8 = 23;
-
-// Of two numbers the first that is not 0; 0 if both are.
-#[tactic(auto, unfolding(crate::specs::Refusal::first_refusal))]
-pub fn first_refusal(first: u8, second: u8) -> u8
-    ensures { result ≡ first_refusal first second }
-{
-    if first == 0 { second } else { first }
+    #[tactic(auto, unfolding(crate::specs::Number::number))]
+    fn from(refusal: Refusal) -> u8 {
+        refusal as u8
+    }
 }

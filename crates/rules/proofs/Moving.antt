@@ -10,7 +10,7 @@ use Rattle.card.specs.declared.Card.{Card}
 use Rattle.record.specs.declared.Keys.{Keys}
 use Rattle.record.specs.declared.Record.{Record}
 use Rattle.record.specs.Flags.{keys_of}
-use Rattle.causes.specs.declared.Causes.{Causes}
+use Rattle.causes.specs.Causes.{Causes}
 use Rattle.causes.specs.Held.{held_in}
 use Rattle.causes.specs.Keeping.{released, keeps, step_10_held}
 use Rattle.state.specs.declared.State.{State}

@@ -12,7 +12,7 @@ use Rattle.cyclic.specs.declared.CyclicStep.{CyclicStep}
 use Rattle.onetime.specs.declared.OneTimeStep.{OneTimeStep}
 use Rattle.cyclic.specs.Cyclic.{cyclic_kind, step_7_cyclic}
 use Rattle.onetime.specs.OneTime.{step_8_one_time}
-use Rattle.causes.specs.declared.Causes.{Causes}
+use Rattle.causes.specs.Causes.{Causes}
 use Rattle.motion.specs.declared.DirectionStep.{DirectionStep}
 use Rattle.motion.specs.declared.StandingStep.{StandingStep}
 use Rattle.causes.specs.Held.{held_in, mask_of, lowest, how_many}

@@ -3,22 +3,22 @@
 
 ghost use Rattle.std.specs.Prelude.{◌≡◌, ◌+◌, ◌≤◌, length};
 ghost use Rattle.layout.specs.Layout.{written};
-ghost use Rattle.card.specs.Card.{CardRanges};
 ghost use Rattle.reading.specs.Speed.{top_speed};
-ghost use Rattle.record.specs.Record.{RecordRanges};
 ghost use Rattle.signal.specs.Ranges.{SignalStepRanges};
 ghost use Rattle.state.specs.State.{StateRanges};
 ghost use Rattle.rules.specs.Permitted.{ceiling, step_6_permitted};
-ghost use Rattle.rules.specs.Answer.{marks, answer_width, answer_bytes, no_answer, answer_at, put_answer};
+ghost use Rattle.rules.specs.Answer.{marks, answer_width, answer_bytes, answer_at, put_answer};
 ghost use Rattle.rules.specs.Tick.{keys_in, signal_in, triggers_in, state_next, steps_2_to_10, advance};
 ghost use Rattle.rules.specs.Findings.{steps_2_to_9};
 
 use card::Card;
-use causes::Causes;
+use causes::{Causes, Mask};
 use cyclic::CyclicStep;
-use layout::{byte_at, high_byte, low_byte, u16_at};
+use layout::{byte_at, u16_at};
 use motion::{DirectionStep, StandingStep};
-use onetime::{OneTimeStep, Prompt};
+use onetime::OneTimeStep;
+use ranges::InRange;
+use reading::Speed;
 use record::{Keys, Record};
 use signal::{Curve, Signal, SignalStep};
 use state::State;
@@ -38,7 +38,7 @@ pub struct Findings {
 
 // What the desk shows after a tick.
 #[repr(C)]
-#[derive(Clone, Copy)]
+#[derive(Clone, Copy, Default, PartialEq, Eq)]
 pub struct Answer {
     // P
     pub permitted: u16,
@@ -50,35 +50,37 @@ pub struct Answer {
     pub held: u8,
 }
 
-// What a tick gives.
+// What a tick gives. The definitions `advance` and `after` build it, so the fact that its state is in range stands in clauses and not in a field.
 #[derive(Clone, Copy)]
 pub struct AfterTick {
     pub state: State,
     pub answer: Answer,
 }
 
-pub fn no_answer() -> Answer
-    ensures { result ≡ no_answer }
-{
-    Answer {
-        permitted: 0,
-        target: 0,
-        marks: 0,
-        causes: 0,
-        lowest: 0,
-        held: 0,
-    }
+// A tick after step 1: the state is as step 1 leaves it, and the findings are what steps 2 to 9 find of it.
+#[derive(Clone, Copy)]
+struct Found {
+    card: InRange<Card>,
+    state: InRange<State>,
+    reading: InRange<Record>,
+    findings: Findings,
+    ghost found: { findings ≡ steps_2_to_9 card.it state.it reading.it },
 }
 
 // Steps 2 to 6, in PRE alone.
 #[tactic(auto, unfolding(crate::specs::Tick::signal_in))]
-fn signal_in(card: Card, state: State, reading: Record, keys: Keys) -> SignalStep
-    requires { CardRanges card × StateRanges state × RecordRanges reading × (keys ≡ keys_in card state reading) }
-    ensures { (result ≡ signal_in card state reading) × SignalStepRanges result }
+fn signal_in(
+    card: InRange<Card>,
+    state: InRange<State>,
+    reading: InRange<Record>,
+    keys: Keys,
+) -> SignalStep
+    requires { keys ≡ keys_in card.it state.it reading.it }
+    ensures { (result ≡ signal_in card.it state.it reading.it) × SignalStepRanges result }
 {
-    let signal = state.signal;
-    if state.mode == record::PRE {
-        return signal::steps_2_to_6(card, signal, reading, keys);
+    let signal = state.it.signal;
+    if state.it.mode == record::PRE {
+        return signal::steps_2_to_6(card, InRange { it: signal }, reading, keys);
     }
     SignalStep {
         signal: signal,
@@ -89,72 +91,72 @@ fn signal_in(card: Card, state: State, reading: Record, keys: Keys) -> SignalSte
 }
 
 #[tactic(auto, unfolding(crate::specs::Permitted::ceiling))]
-fn ceiling(card: Card, mode: u8) -> u16
-    requires { CardRanges card }
-    ensures { (result ≡ ceiling card mode) × (result ≤ top_speed) }
+fn ceiling(card: InRange<Card>, mode: u8) -> Speed
+    ensures { result.tenths ≡ ceiling card.it mode }
 {
-    if mode == record::POS {
-        return card.pos;
-    }
-    if mode == record::PRE {
-        return 1600;
-    }
-    if mode == record::VYL {
-        return 1200;
-    }
-    card.zav
+    let tenths = match mode {
+        record::POS => card.it.pos,
+        record::PRE => 1600,
+        record::VYL => 1200,
+        _ => card.it.zav,
+    };
+    Speed { tenths: tenths }
 }
 
 // Step 6: P.
 #[tactic(auto, unfolding(crate::specs::Permitted::step_6_permitted))]
-fn step_6_permitted(card: Card, mode: u8, speed: u16) -> u16
-    requires { CardRanges card }
-    ensures { (result ≡ step_6_permitted card mode speed) × (result ≤ top_speed) }
+fn step_6_permitted(card: InRange<Card>, mode: u8, speed: u16) -> Speed
+    ensures { result.tenths ≡ step_6_permitted card.it mode speed }
 {
-    let first = numbers::lesser(card.design, ceiling(card, mode));
-    let least = numbers::lesser(first, numbers::lesser(card.set, card.highest));
+    let train = card.it.design.min(ceiling(card, mode).tenths);
+    let least = train.min(card.it.set.min(card.it.highest));
     if mode == record::PRE {
-        return numbers::lesser(least, speed);
+        return Speed {
+            tenths: least.min(speed),
+        };
     }
-    least
+    Speed { tenths: least }
 }
 
 // Steps 2 to 9.
-fn steps_2_to_9(card: Card, state: State, reading: Record) -> Findings
-    requires { CardRanges card × StateRanges state × RecordRanges reading }
-    ensures { result ≡ steps_2_to_9 card state reading }
+fn steps_2_to_9(card: InRange<Card>, state: InRange<State>, reading: InRange<Record>) -> Findings
+    ensures { result ≡ steps_2_to_9 card.it state.it reading.it }
 {
-    let keys = record::keys_of(reading.flags, state.buttons);
+    let old = state.it;
+    let keys = record::keys_of(reading.it.flags, old.buttons);
     let signal = signal_in(card, state, reading, keys);
-    let permitted = step_6_permitted(card, state.mode, signal.speed);
-    let signals = signal.signal;
-    let kind = cyclic::cyclic_kind(state.mode, signals, reading, keys);
-    let old = state.cyclic;
-    let cyclic = cyclic::step_7_cyclic(card, kind, old, keys);
-    let curve = signal.signal.curve;
-    let prompt = state.prompt;
+    let permitted = step_6_permitted(card, old.mode, signal.speed);
+    let kind = cyclic::cyclic_kind(old.mode, signal.signal, reading.it, keys);
+    let cyclic = cyclic::step_7_cyclic(card, kind, InRange { it: old.cyclic }, keys);
     let onetime = onetime::step_8_one_time(
         card,
-        curve,
+        InRange {
+            it: signal.signal.curve,
+        },
         signal.begins,
-        signal.target,
-        reading.v,
+        Speed {
+            tenths: signal.target,
+        },
+        Speed {
+            tenths: reading.it.v,
+        },
         keys,
-        prompt,
+        InRange { it: old.prompt },
     );
-    let direction = motion::step_9_direction(state.mode, reading, keys, state.wrongway);
+    let direction = motion::step_9_direction(old.mode, reading, keys, old.wrongway);
+    let mask = Mask { bits: old.causes };
     let standing = motion::step_9_standing(
         card,
-        state.mode,
-        reading,
+        old.mode,
+        reading.it,
         keys,
-        causes::holds_nz5(state.causes),
-        state.standing,
+        mask.held().nz5,
+        old.standing,
     );
     Findings {
         keys: keys,
         signal: signal,
-        permitted: permitted,
+        permitted: permitted.tenths,
         cyclic: cyclic,
         onetime: onetime,
         direction: direction,
@@ -162,114 +164,120 @@ fn steps_2_to_9(card: Card, state: State, reading: Record) -> Findings
     }
 }
 
-// Step 9: the triggers.
-#[tactic(auto, unfolding(crate::specs::Tick::triggers_in), using(crate::proofs::Keeps::permitted_in_most))]
-fn triggers_in(card: Card, state: State, reading: Record, findings: Findings) -> Causes
-    requires { CardRanges card × StateRanges state × RecordRanges reading × (findings ≡ steps_2_to_9 card state reading) }
-    ensures { result ≡ triggers_in card state reading }
-{
-    Causes {
-        nz1: findings.cyclic.lapses | findings.onetime.lapses,
-        nz2: findings.permitted + card.tolerance < reading.v,
-        nz3: findings.direction.triggers,
-        nz4: record::pre_or_vyl(state.mode) & findings.keys.remote,
-        nz5: findings.standing.triggers,
+impl Findings {
+    // The marks of the answer.
+    #[tactic(auto, unfolding(crate::specs::Answer::marks))]
+    fn marks(self) -> u8
+        ensures { result ≡ marks self.signal.signal self.cyclic self.onetime.prompt self.standing }
+    {
+        numbers::weight(0 < self.signal.signal.man, 1)
+            + numbers::weight(0 < self.signal.signal.curve.start, 2)
+            + numbers::weight(self.cyclic.prompts, 4)
+            + numbers::weight(0 < self.onetime.prompt.ticks, 8)
+            + numbers::weight(0 < self.onetime.prompt.kind, 16)
+            + numbers::weight(self.standing.sounds, 32)
     }
 }
 
-// Step 10, and the state that the next tick starts from.
-fn state_next(card: Card, state: State, reading: Record, findings: Findings) -> State
-    requires { CardRanges card × StateRanges state × RecordRanges reading × (findings ≡ steps_2_to_9 card state reading) }
-    ensures { (result ≡ state_next card state reading) × StateRanges result }
-{
-    let triggers = triggers_in(card, state, reading, findings);
-    let keys = findings.keys;
-    let mask = causes::step_10_mask(state.causes, triggers, findings.permitted, reading, keys);
-    let wrongway = causes::step_10_wrongway(
-        findings.direction.wrongway,
-        state.causes,
-        triggers,
-        findings.permitted,
-        reading,
-        keys,
-    );
-    let codes = findings.signal.signal.codes;
-    let prompt = findings.onetime.prompt;
-    let cyclic = findings.cyclic.cyclic;
-    State {
-        mode: state.mode,
-        buttons: reading.flags % 8,
-        signal: Signal {
-            codes: codes,
-            curve: Curve {
-                start: findings.signal.signal.curve.start,
-                driven: findings.signal.signal.curve.driven,
-                prompted: findings.onetime.prompted,
+impl Found {
+    // Step 9: the triggers.
+    #[tactic(auto, unfolding(crate::specs::Tick::triggers_in), using(crate::proofs::Keeps::permitted_in_most))]
+    fn triggers_in(self) -> Causes
+        ensures { result ≡ triggers_in self.card.it self.state.it self.reading.it }
+    {
+        let findings = self.findings;
+        Causes {
+            nz1: findings.cyclic.lapses | findings.onetime.lapses,
+            nz2: findings.permitted + self.card.it.tolerance < self.reading.it.v,
+            nz3: findings.direction.triggers,
+            nz4: record::pre_or_vyl(self.state.it.mode) & findings.keys.remote,
+            nz5: findings.standing.triggers,
+        }
+    }
+
+    // Step 10, and the state that the next tick starts from.
+    fn state_next(self) -> InRange<State>
+        ensures { result.it ≡ state_next self.card.it self.state.it self.reading.it }
+    {
+        let triggered = self.triggers_in();
+        let findings = self.findings;
+        let signal = findings.signal.signal;
+        let reading = self.reading.it;
+        let mask = Mask {
+            bits: self.state.it.causes,
+        };
+        let causes = mask.step_10(triggered, findings.permitted, reading, findings.keys);
+        let wrongway = causes::step_10_wrongway(
+            findings.direction.wrongway,
+            self.state.it.causes,
+            triggered,
+            findings.permitted,
+            reading,
+            findings.keys,
+        );
+        InRange {
+            it: State {
+                mode: self.state.it.mode,
+                buttons: reading.flags % 8,
+                signal: Signal {
+                    curve: Curve {
+                        prompted: findings.onetime.prompted,
+                        ..signal.curve
+                    },
+                    ..signal
+                },
+                prompt: findings.onetime.prompt,
+                cyclic: findings.cyclic.cyclic,
+                wrongway: wrongway,
+                standing: findings.standing.standing,
+                causes: causes.bits,
             },
-            man: findings.signal.signal.man,
-        },
-        prompt: prompt,
-        cyclic: cyclic,
-        wrongway: wrongway,
-        standing: findings.standing.standing,
-        causes: mask,
+        }
     }
-}
 
-#[tactic(auto, unfolding(crate::specs::Answer::marks))]
-fn marks(signal: Signal, cyclic: CyclicStep, prompt: Prompt, standing: StandingStep) -> u8
-    ensures { result ≡ marks signal cyclic prompt standing }
-{
-    numbers::weight(0 < signal.man, 1)
-        + numbers::weight(0 < signal.curve.start, 2)
-        + numbers::weight(cyclic.prompts, 4)
-        + numbers::weight(0 < prompt.ticks, 8)
-        + numbers::weight(0 < prompt.kind, 16)
-        + numbers::weight(standing.sounds, 32)
-}
-
-// Steps 2 to 10 and the answer, from what steps 2 to 9 found.
-#[tactic(auto, unfolding(crate::specs::Tick::state_next, crate::specs::Tick::answer_now, crate::specs::Tick::steps_2_to_10))]
-fn steps_2_to_10(card: Card, state: State, reading: Record, findings: Findings) -> AfterTick
-    requires { CardRanges card × StateRanges state × RecordRanges reading × (findings ≡ steps_2_to_9 card state reading) }
-    ensures { (result ≡ steps_2_to_10 card state reading) × StateRanges result.state }
-{
-    let next = state_next(card, state, reading, findings);
-    let signal = findings.signal.signal;
-    let cyclic = findings.cyclic;
-    let prompt = findings.onetime.prompt;
-    let standing = findings.standing;
-    let marks = marks(signal, cyclic, prompt, standing);
-    let lowest = causes::lowest(next.causes);
-    let held = causes::how_many(next.causes);
-    AfterTick {
-        state: next,
-        answer: Answer {
-            permitted: findings.permitted,
-            target: findings.signal.target,
-            marks: marks,
-            causes: next.causes,
-            lowest: lowest,
-            held: held,
-        },
+    // Steps 2 to 10: the new state and the answer.
+    #[tactic(auto, unfolding(crate::specs::Tick::state_next, crate::specs::Tick::answer_now, crate::specs::Tick::steps_2_to_10))]
+    fn steps_2_to_10(self) -> AfterTick
+        ensures { (result ≡ steps_2_to_10 self.card.it self.state.it self.reading.it) × StateRanges result.state }
+    {
+        let next = self.state_next();
+        let findings = self.findings;
+        let held = Mask {
+            bits: next.it.causes,
+        };
+        AfterTick {
+            state: next.it,
+            answer: Answer {
+                permitted: findings.permitted,
+                target: findings.signal.target,
+                marks: findings.marks(),
+                causes: held.bits,
+                lowest: held.lowest(),
+                held: held.how_many(),
+            },
+        }
     }
 }
 
 // One tick: the new state and the answer.
 #[tactic(auto, unfolding(crate::specs::Tick::advance))]
-pub fn advance(card: Card, state: State, reading: Record) -> AfterTick
-    requires { CardRanges card × StateRanges state × RecordRanges reading }
-    ensures { (result ≡ advance card state reading) × StateRanges result.state }
+pub fn advance(card: InRange<Card>, state: InRange<State>, reading: InRange<Record>) -> AfterTick
+    ensures { (result ≡ advance card.it state.it reading.it) × StateRanges result.state }
 {
     let after_step_1 = state::step_1_mode(state, reading);
-    let findings = steps_2_to_9(card, after_step_1, reading);
-    steps_2_to_10(card, after_step_1, reading, findings)
+    let found = Found {
+        card: card,
+        state: after_step_1,
+        reading: reading,
+        findings: steps_2_to_9(card, after_step_1, reading),
+    };
+    found.steps_2_to_10()
 }
 
 // How many bytes an answer takes.
 pub const ANSWER_WIDTH: usize = 8;
 
-// The answer in the 8 bytes from `at`; a place past the end holds 0.
+// The answer in the 8 bytes from `at`; a place past the end holds 0, which a `From` of an array couldn't say.
 #[tactic(auto, unfolding(crate::specs::Answer::answer_at))]
 pub fn answer_at(bytes: &[u8], at: usize) -> Answer
     ensures { result ≡ answer_at bytes.now at }
@@ -284,31 +292,38 @@ pub fn answer_at(bytes: &[u8], at: usize) -> Answer
     }
 }
 
+// The answer's 8 bytes.
+impl From<Answer> for [u8; ANSWER_WIDTH] {
+    ghost from_gives = { λ answer bytes. bytes ≡ answer_bytes answer };
+
+    fn from(answer: Answer) -> [u8; ANSWER_WIDTH] {
+        let [permitted_low, permitted_high] = answer.permitted.to_le_bytes();
+        let [target_low, target_high] = answer.target.to_le_bytes();
+        [
+            permitted_low,
+            permitted_high,
+            target_low,
+            target_high,
+            answer.marks,
+            answer.causes,
+            answer.lowest,
+            answer.held,
+        ]
+    }
+}
+
 // Writes the answer's 8 bytes from `at`, where they are known to fit: no test.
 pub fn write_answer(bytes: &mut [u8], at: usize, answer: Answer)
     requires { at + answer_width ≤ length bytes.old }
     ensures { bytes.new ≡ written bytes.old at (answer_bytes answer) }
 {
-    layout::put_eight(
-        bytes,
-        at,
-        low_byte(answer.permitted),
-        high_byte(answer.permitted),
-        low_byte(answer.target),
-        high_byte(answer.target),
-        answer.marks,
-        answer.causes,
-        answer.lowest,
-        answer.held,
-    );
+    layout::put_bytes(bytes, at, answer.into());
 }
 
 // Writes the answer's 8 bytes from `at`; where they do not fit, nothing.
-#[tactic(auto, unfolding(crate::specs::Answer::put_answer, layout::specs::Layout::put))]
+#[tactic(auto, unfolding(crate::specs::Answer::put_answer))]
 pub fn put_answer(bytes: &mut [u8], at: usize, answer: Answer)
     ensures { bytes.new ≡ put_answer bytes.old at answer }
 {
-    if layout::fits(bytes.len(), at, ANSWER_WIDTH) {
-        write_answer(bytes, at, answer);
-    }
+    layout::put_if_fits(bytes, at, answer.into());
 }

@@ -3,7 +3,7 @@
 
 ghost use Rattle.std.specs.Prelude.{◌≡◌, ◌+◌, ◌≤◌};
 ghost use Rattle.script.specs.Sample.{u32_at, sample_at};
-ghost use Rattle.script.specs.Call.{journal_length, open_reply, call_most, call_width, play_reply, play_journal};
+ghost use Rattle.script.specs.Call.{journal_length, open_reply, call_most, call_of, width, reply_of, journal_of, play_reply, play_journal};
 
 use card::CARD_WIDTH;
 use desk::{Desk, Outcome};
@@ -15,32 +15,71 @@ use why::Reasons;
 // The card, and the journal's length as a u16.
 pub const HEADER_WIDTH: usize = CARD_WIDTH + 2;
 
-// The byte that each call begins with.
-const TICK: u8 = 1;
-
-const STEP_BACK: u8 = 2;
-
-const RESTART: u8 = 3;
-
-const WHY: u8 = 4;
-
 // How many bytes a sample takes.
 const SAMPLE_WIDTH: usize = 13;
 
 // The most bytes of a call: those of a tick.
 pub const CALL_MOST: usize = 1 + SAMPLE_WIDTH;
 
-// What a header or a call comes to.
+// What can be asked of a desk.
+#[derive(Clone, Copy)]
+pub enum Call {
+    Tick,
+    StepBack,
+    Restart,
+    Why,
+}
+
+// What is wrong with a header or a call.
+#[derive(Clone, Copy)]
+pub enum BadScript {
+    UnknownCall,
+    CutShort,
+}
+
+// What a call comes to.
 #[derive(Clone, Copy)]
 pub enum Reply {
     // what is printed as a line
     Line(Outcome),
     // why the valve is open, printed as a line too; the desk is as it was
     Why(Reasons),
-    // an unknown call, or a header or a call cut short
-    BadScript,
 }
 
+// The call that begins with a byte.
+impl TryFrom<u8> for Call {
+    type Error = BadScript;
+
+    ghost try_from_gives = { λ byte result. result ≡ call_of byte };
+
+    #[tactic(auto, unfolding(crate::specs::Call::call_of))]
+    fn try_from(byte: u8) -> Result<Call, BadScript> {
+        match byte {
+            1 => Ok(Call::Tick),
+            2 => Ok(Call::StepBack),
+            3 => Ok(Call::Restart),
+            4 => Ok(Call::Why),
+            _ => Err(BadScript::UnknownCall),
+        }
+    }
+}
+
+impl Call {
+    // How many bytes a call takes, the first among them.
+    #[tactic(auto, unfolding(crate::specs::Call::width))]
+    pub fn width(self) -> usize
+        ensures { (result ≡ width self) × (1 ≤ result) × (result ≤ call_most) }
+    {
+        match self {
+            Call::Tick => CALL_MOST,
+            Call::StepBack => 1 + 2,
+            Call::Restart => 1,
+            Call::Why => 1,
+        }
+    }
+}
+
+// Not `from_le_bytes`: a place past the end holds 0.
 fn u32_at(bytes: &[u8], at: usize, k: usize) -> u32
     requires { k ≤ 4 }
     ensures { result ≡ u32_at bytes.now (at + k) }
@@ -74,51 +113,38 @@ pub fn journal_length(header: &[u8]) -> u16
 
 // Opens the desk of a header's card.
 #[tactic(auto, unfolding(crate::specs::Call::open_reply))]
-pub fn open(header: &[u8]) -> Reply
+pub fn open(header: &[u8]) -> Result<Outcome, BadScript>
     ensures { result ≡ open_reply header.now }
 {
     if header.len() < HEADER_WIDTH {
-        return Reply::BadScript;
+        return Err(BadScript::CutShort);
     }
-    Reply::Line(Desk::open(card::card_at(header, 0)))
+    Ok(Desk::open(card::card_at(header, 0)))
 }
 
-// How many bytes a call takes, by its first; 0 where it is unknown.
-#[tactic(auto, unfolding(crate::specs::Call::call_width))]
-pub fn call_width(kind: u8) -> usize
-    ensures { (result ≡ call_width kind) × (result ≤ call_most) }
+// Plays a call that is known, and all there.
+#[tactic(auto, unfolding(crate::specs::Call::reply_of, crate::specs::Call::journal_of))]
+fn reply_of(kind: Call, desk: Desk, call: &[u8], journal: &mut [u8]) -> Reply
+    ensures reply { result ≡ reply_of desk call.now journal.old kind }
+    ensures journal { journal.new ≡ journal_of desk call.now journal.old kind }
 {
     match kind {
-        TICK => CALL_MOST,
-        STEP_BACK => 1 + 2,
-        RESTART => 1,
-        WHY => 1,
-        _ => 0,
+        Call::Tick => Reply::Line(desk.tick(sample_at(call, 1), journal)),
+        Call::StepBack => Reply::Line(desk.step_back(u16_at(call, 1, 0) as u32, journal)),
+        Call::Restart => Reply::Line(desk.restart()),
+        Call::Why => Reply::Why(why::why(desk, journal)),
     }
 }
 
 // Plays one call on the desk.
 #[tactic(auto, unfolding(crate::specs::Call::play_reply, crate::specs::Call::play_journal))]
-pub fn play(desk: Desk, call: &[u8], journal: &mut [u8]) -> Reply
+pub fn play(desk: Desk, call: &[u8], journal: &mut [u8]) -> Result<Reply, BadScript>
     ensures reply { result ≡ play_reply desk call.now journal.old }
     ensures journal { journal.new ≡ play_journal desk call.now journal.old }
 {
-    let kind = byte_at(call, 0, 0);
-    if call.len() < call_width(kind) {
-        return Reply::BadScript;
+    let kind = Call::try_from(byte_at(call, 0, 0))?;
+    if call.len() < kind.width() {
+        return Err(BadScript::CutShort);
     }
-    if kind == TICK {
-        return Reply::Line(desk.tick(sample_at(call, 1), journal));
-    }
-    if kind == STEP_BACK {
-        let k = u16_at(call, 1, 0) as u32;
-        return Reply::Line(desk.step_back(k, journal));
-    }
-    if kind == RESTART {
-        return Reply::Line(desk.restart());
-    }
-    if kind == WHY {
-        return Reply::Why(why::why(desk, journal));
-    }
-    Reply::BadScript
+    Ok(reply_of(kind, desk, call, journal))
 }

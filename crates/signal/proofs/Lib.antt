@@ -1,4 +1,3 @@
-pub mod Ranges
 pub mod Value
 pub mod Keeps
 pub mod Distance

@@ -6,7 +6,7 @@ use mathlib.Core.Bool.{Bool, true, false}
 use mathlib.Core.Logic.{⊎_elim}
 use native.Mathlib.Nat.{mul-le-mul, mul-le-mul_left}
 use native.Mathlib.Omega.{arith}
-use borrow.Author.Tests.{leb-true, leb-false, ltb-false, lt-ltb, le-ltb, eq-eqb, ne_eqb}
+use borrow.Author.Tests.{leb-true, leb-false, ltb-false, lt-ltb, le-ltb, eq-eqb, ne_eqb, eqb-false}
 use lib.Dec.{leb, ltb, eqb}
 use Rattle.numbers.proofs.Tests.{le_or_lt}
 use Rattle.card.specs.declared.Card.{Card}
@@ -81,6 +81,11 @@ module _ (card : Card) (curve : Curve) (t driven : ℕ) (good : CurveRanges curv
   unfolding curve_value
   value_largest = found 12 (curve_bound card curve t driven) (omega (arith, bound_most))
 
+  -- the root of a fifth of the bound is the curve's value
+  pub root_value : (w : ℕ) → w * w ≤ curve_bound card curve t driven / 5 → curve_bound card curve t driven / 5 < (w + 1) * (w + 1)
+      → w ≡ curve_value card curve t driven
+  root_value w p q = only (root_largest p q) value_largest
+
   pub value_most : curve_value card curve t driven ≤ top_speed
   value_most = speed_by_squares (omega (arith, value_largest.fits, bound_most))
 
@@ -98,3 +103,7 @@ module _ (card : Card) (curve : Curve) (t driven : ℕ) (good : CurveRanges curv
   unspent card_good n =
       let higher : five_squares (t + 1) ≤ curve_bound card curve t driven = ltb-false _ _ (sym over_by_squares ∙ ne_eqb _ _ n) in
       omega (arith, squares_grow good.start_most, mul-le-mul_left driven card_good.deceleration_least)
+
+  -- so where the next speed above T fits, E is in range
+  pub not_over_most : CardRanges card → ltb (curve_bound card curve t driven) (five_squares (t + 1)) ≡ false → driven ≤ farthest
+  not_over_most card_good e = omega (arith, unspent card_good (eqb-false _ _ (over_by_squares ∙ e)))

@@ -5,3 +5,4 @@ pub mod NewCode
 pub mod Man
 pub mod Curve
 pub mod Steps
+pub mod Laws

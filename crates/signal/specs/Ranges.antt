@@ -33,6 +33,9 @@ pub record SignalRanges (signal : Signal) : Type 0 where
   pub curve : CurveRanges signal.curve
   pub man_most : signal.man ≤ top_speed
 
+unfoldable pub curve_in_range : Curve → Bool
+curve_in_range curve = leb curve.start top_speed && leb curve.driven farthest && leb curve.prompted 1
+
 unfoldable pub signal_in_range : Signal → Bool
 signal_in_range signal =
     codes_in_range signal.codes && leb signal.curve.start top_speed && leb signal.curve.driven farthest

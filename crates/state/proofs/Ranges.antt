@@ -1,22 +1,7 @@
--- The test of a state says that it is in range, and the other way round; a fresh state is in range.
--- The test taken apart into its facts and the tests of its parts. Assumes nothing.
-use mathlib.Core.Path.{◌≡◌}
-use mathlib.Core.Bool.{true}
+-- A fresh state is in range.
+-- By arithmetic. Assumes nothing.
 use native.Mathlib.Omega.{arith}
-use Rattle.numbers.proofs.Tests.{and_iff, leb_iff}
-use Rattle.signal.proofs.Ranges.{signal_ranges, ranges_signal}
-use Rattle.cyclic.proofs.Ranges.{cyclic_ranges}
-use Rattle.onetime.proofs.Ranges.{prompt_ranges}
-use Rattle.state.specs.declared.State.{State}
-use Rattle.state.specs.State.{fresh_state, StateRanges, state_in_range}
-
-pub state_ranges : (s : State) → state_in_range s ≡ true → StateRanges s
-unfolding state_in_range
-state_ranges s h = let f = simp (and_iff, leb_iff) at h in search (signal_ranges, prompt_ranges, cyclic_ranges)
-
-pub ranges_state : (s : State) → StateRanges s → state_in_range s ≡ true
-unfolding state_in_range
-ranges_state s h = simp (and_iff, leb_iff) (search ranges_signal)
+use Rattle.state.specs.State.{fresh_state, StateRanges}
 
 pub fresh_ranges : StateRanges fresh_state
 fresh_ranges = omega arith

@@ -3,19 +3,21 @@
 
 ghost use Rattle.std.specs.Prelude.{◌≡◌, ◌≤◌};
 ghost use Rattle.record.specs.Modes.{pos, zav};
-ghost use Rattle.record.specs.Record.{RecordRanges};
 ghost use Rattle.state.specs.State.{fresh_state, StateRanges, state_in_range};
 ghost use Rattle.state.specs.Mode.{mode_now, step_1_mode};
+ghost use Rattle.state.specs.Laws.{state_laws};
 
 use cyclic::Cyclic;
 use onetime::Prompt;
+use ranges::{InRange, Ranged};
 use record::Record;
 use signal::Signal;
 
 // All that the desk holds but its card and n.
 #[repr(C)]
-#[derive(Clone, Copy)]
+#[derive(Clone, Copy, Default, PartialEq, Eq)]
 pub struct State {
+    // a mode by its number, which C reads in `foldharbor_desk` and may hand over out of range
     pub mode: u8,
     // the three buttons of the last tick: vigilance, PLUS, MAN
     pub buttons: u8,
@@ -32,69 +34,74 @@ pub struct State {
 // All three buttons.
 const ALL_BUTTONS: u8 = 7;
 
-pub fn fresh_state() -> State
-    ensures { result ≡ fresh_state }
-{
-    State {
-        mode: record::POS,
-        buttons: 0,
-        signal: signal::no_signal(),
-        prompt: Prompt { ticks: 0, kind: 0 },
-        cyclic: Cyclic { kind: 0, ticks: 0 },
-        wrongway: 0,
-        standing: 0,
-        causes: 0,
+impl Ranged for State {
+    ghost ranges = { StateRanges };
+
+    ghost test = { state_in_range };
+
+    ghost laws = { state_laws };
+
+    #[tactic(auto, unfolding(crate::specs::State::state_in_range))]
+    fn in_range(self) -> bool {
+        (record::POS <= self.mode)
+            & (self.mode <= record::ZAV)
+            & (self.buttons <= ALL_BUTTONS)
+            & self.signal.in_range()
+            & self.prompt.in_range()
+            & self.cyclic.in_range()
+            & (self.wrongway <= motion::MOST_WRONGWAY)
+            & (self.standing <= card::LONG_WAIT)
+            & (self.causes <= causes::ALL_HELD)
     }
 }
 
-#[tactic(auto, unfolding(crate::specs::State::state_in_range))]
-pub fn state_in_range(state: State) -> bool
-    ensures { result ≡ state_in_range state }
+#[tactic(auto, using(crate::proofs::Ranges::fresh_ranges))]
+pub fn fresh_state() -> InRange<State>
+    ensures { result.it ≡ fresh_state }
 {
-    (record::POS <= state.mode)
-        & (state.mode <= record::ZAV)
-        & (state.buttons <= ALL_BUTTONS)
-        & signal::signal_in_range(state.signal)
-        & onetime::prompt_in_range(state.prompt)
-        & cyclic::cyclic_in_range(state.cyclic)
-        & (state.wrongway <= motion::MOST_WRONGWAY)
-        & (state.standing <= card::LONG_WAIT)
-        & (state.causes <= causes::ALL_HELD)
+    InRange {
+        it: State {
+            mode: record::POS,
+            ..State::default()
+        },
+    }
 }
 
 #[tactic(auto, unfolding(crate::specs::Mode::mode_now))]
-fn mode_now(state: State, reading: Record) -> u8
-    requires { StateRanges state × RecordRanges reading }
-    ensures { (result ≡ mode_now state reading) × ((pos ≤ result) × (result ≤ zav)) }
+fn mode_now(state: InRange<State>, reading: InRange<Record>) -> u8
+    ensures { (result ≡ mode_now state.it reading.it) × ((pos ≤ result) × (result ≤ zav)) }
 {
-    if reading.v == 0 {
-        return reading.mode;
+    if reading.it.v == 0 {
+        return reading.it.mode;
     }
-    state.mode
+    state.it.mode
 }
 
 // Step 1.
 #[tactic(auto, unfolding(crate::specs::Mode::step_1_mode), using(crate::proofs::Keeps::step_1_mode_ranges))]
-pub fn step_1_mode(state: State, reading: Record) -> State
-    requires { StateRanges state × RecordRanges reading }
-    ensures { (result ≡ step_1_mode state reading) × StateRanges result }
+pub fn step_1_mode(state: InRange<State>, reading: InRange<Record>) -> InRange<State>
+    ensures { result.it ≡ step_1_mode state.it reading.it }
 {
     let mode = mode_now(state, reading);
-    let mut next = state;
-    next.mode = mode;
-    if mode == state.mode {
+    let old = state.it;
+    if mode == old.mode {
         if mode == record::PRE {
-            return next;
+            return state;
         }
-        let none = signal::no_signal();
-        let quiet = Prompt { ticks: 0, kind: 0 };
-        next.signal = none;
-        next.prompt = quiet;
-        return next;
+        return InRange {
+            it: State {
+                signal: Signal::default(),
+                prompt: Prompt::default(),
+                ..old
+            },
+        };
     }
-    let mut cleared = fresh_state();
-    cleared.mode = mode;
-    cleared.buttons = state.buttons;
-    cleared.causes = state.causes;
-    cleared
+    InRange {
+        it: State {
+            mode: mode,
+            buttons: old.buttons,
+            causes: old.causes,
+            ..State::default()
+        },
+    }
 }

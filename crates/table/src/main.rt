@@ -3,26 +3,8 @@
 // That the input can't be read, or the table not be written, is told there too.
 #![tactic(auto)]
 
-use lines::{Fault, Made};
-use std::io;
 use std::io::Write;
 use texts::MOST_BYTES;
-
-// What a fault is told as.
-fn words_of(fault: Fault) -> &'static [u8] {
-    match fault {
-        Fault::NoLine => b"there is none, and a table has at least one message",
-        Fault::TooMany => b"one too many, a table has at most 64 messages",
-        Fault::TooLong => b"the table would be longer than 65535 bytes",
-        Fault::NotUtf8 => b"it is not UTF-8",
-    }
-}
-
-fn tell<W: Write>(to: &mut W, fault: Fault, line: usize) -> io::Result<()> {
-    write!(to, "table: line {line}: ")?;
-    to.write_all(words_of(fault))?;
-    to.write_all(b"\n")
-}
 
 fn main(rt: HostRuntime) {
     // longer than the lines of any table, so that a cut input is never taken for a whole one
@@ -36,13 +18,13 @@ fn main(rt: HostRuntime) {
     };
     let mut table = [0u8; MOST_BYTES];
     match lines::make(&text[..n], &mut table) {
-        Made::Table(_, length) => {
-            if let Err(error) = rt.stdout().write_all(&table[..length]) {
+        Ok(made) => {
+            if let Err(error) = rt.stdout().write_all(&table[..made.length]) {
                 input::fail(&mut rt.stderr(), b"table: standard output", error);
             }
         }
-        Made::Bad(fault, line) => {
-            let _ = tell(&mut rt.stderr(), fault, line);
+        Err(fault) => {
+            let _ = writeln!(&mut rt.stderr(), "table: {fault}");
         }
     }
 }

@@ -12,7 +12,8 @@ use std::{fs, io, str};
 // The longest name that the system takes.
 const NAME_MOST: usize = 4096;
 
-// What the system says of an argument that is missing, of a name that is too long, and of one that is no text, which std opens no file by.
+// What the system says of an argument that is missing, of a name that is too long, and of one that is no text, which std opens no file by: the system's own
+// numbers, which `from_raw_os_error` takes.
 const MISSING: i32 = 22;
 
 const TOO_LONG: i32 = 36;
@@ -38,7 +39,7 @@ fn tell_long<W: Write>(told: &mut W, program: &[u8], file: &[u8]) -> io::Result<
     told.write_all(b": longer than a table can be\n")
 }
 
-// The argument's bytes at the start of the buffer; answers how many they are.
+// The argument's bytes at the start of the buffer; answers how many they are, as std's `arg` does.
 fn name_at<R: Env>(rt: &R, argument: usize, name: &mut [u8]) -> io::Result<usize>
     ensures bound { WritesAtMost result name.new }
 {
@@ -60,16 +61,16 @@ fn read<R: Files>(rt: &R, name: &[u8], table: &mut [u8]) -> io::Result<usize>
     input::fill(&mut file, table)
 }
 
-// Reads the file into a buffer that is one byte longer than a table can be; answers its length, or nothing where it can't, which is told, to standard error,
+// Reads the file into a buffer that is one byte longer than a table can be; answers the table, or nothing where it can't, which is told, to standard error,
 // as what the program of this name says.
-pub fn load<R: Env + Files, W: Write>(
+pub fn load<'a, R: Env + Files, W: Write>(
     rt: &R,
     told: &mut W,
     program: &[u8],
     argument: usize,
-    table: &mut [u8],
-) -> Option<usize>
-    ensures within { IfSome result (λ n. n < length table.old) }
+    table: &'a mut [u8],
+) -> Option<&'a [u8]>
+    ensures within { IfSome result (λ bytes. length bytes.now < length table.old) }
 {
     let mut buffer = [0u8; NAME_MOST];
     let n = match name_at(rt, argument, &mut buffer) {
@@ -83,7 +84,7 @@ pub fn load<R: Env + Files, W: Write>(
     match read(rt, name, table) {
         Ok(got) => {
             if got < table.len() {
-                return Some(got);
+                return Some(&table[..got]);
             }
             let _ = tell_long(told, program, name);
         }

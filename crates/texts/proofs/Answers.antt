@@ -18,7 +18,7 @@ use Rattle.utf8.proofs.Utf8.{utf8_nil}
 use Rattle.texts.specs.Table.{count, message, table_good}
 use Rattle.texts.specs.Text.{text_refusal, text_place}
 use Rattle.texts.specs.declared.Place.{Place}
-use Rattle.texts.proofs.Tables.{Good, table_good_lem, good_table, offset_most}
+use Rattle.texts.proofs.Good.{Good, table_good_lem, good_table, offset_most}
 
 -- ---- why a call is refused, in the request's words and numbers; the four shut each other out
 pub data Reason (table : List ℕ) (language number refusal : ℕ) : Type 0 where

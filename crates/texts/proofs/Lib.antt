@@ -1,4 +1,5 @@
-pub mod Tables
+pub mod Good
 pub mod Answers
+pub mod Placed
 pub mod Determined
 pub mod Answered

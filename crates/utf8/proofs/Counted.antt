@@ -1,14 +1,14 @@
 -- A well-formed text has as many characters as scalar values: of each encoding all bytes but the first are 80..BF.
 -- By the size of the value, then by induction on the values.
-use Prim.Native.Nat.{ℕ, suc, ◌+◌, ◌/◌, ◌≤◌, ◌<◌}
-use native.Mathlib.Numerals.{add-one}
+use Prim.Native.Nat.{ℕ, suc, ◌+◌, ◌/◌, ◌<◌}
 use native.Mathlib.Omega.{arith}
 use mathlib.Core.Path.{◌≡◌, refl, sym, ap, ◌∙◌}
-use mathlib.Core.Bool.{false, true, cond, and-false}
+use mathlib.Core.Bool.{Bool, false, true, not, cond, and-false}
 use mathlib.Core.List.{List, [], ◌∷◌, ◌++◌, flat_map}
-use lib.ListN.{length, get_or, drop, drop_of_length-le}
-use lib.Seq.{drop-cons}
+use lib.ListN.{length}
 use borrow.Author.Tests.{lt-leb}
+use Rattle.std.specs.List.{count_by}
+use Rattle.std.proofs.lemmas.List.Recursion.{is_count_by}
 use Rattle.utf8.specs.Utf8.{trailing, encoding, Utf8}
 use Rattle.utf8.specs.Rows.{is_trailing}
 use Rattle.utf8.specs.Characters.{characters}
@@ -44,12 +44,11 @@ counted (v ∷ values) = one_more v (flat_map encoding values) ∙ ap suc (count
 pub characters_values : (bytes : List ℕ) (u : Utf8 bytes) → characters bytes ≡ length u.values
 characters_values bytes u = ap characters (sym u.encoded) ∙ counted u.values
 
--- ---- the bytes of a list from a place on, one after the other
-pub none_counted : (bytes : List ℕ) (at : ℕ) → length bytes ≤ at → characters (drop at bytes) ≡ 0
+-- as the code counts them
+pub characters_count : (bytes : List ℕ) → characters bytes ≡ count_by (λ byte. not (is_trailing byte)) bytes
 unfolding characters
-none_counted bytes at h = ap characters (drop_of_length-le bytes h)
-
-pub next_counted : (bytes : List ℕ) (at : ℕ) → at < length bytes
-    → characters (drop at bytes) ≡ cond (is_trailing (get_or bytes at 0)) 0 1 + characters (drop (at + 1) bytes)
-unfolding characters
-next_counted bytes at h = rw (add-one, drop-cons bytes at 0 h)
+characters_count bytes = is_count_by characters (λ byte. not (is_trailing byte)) refl (λ byte bytes. next (is_trailing byte) (characters bytes)) bytes
+  where
+    next : (trailing : Bool) (more : ℕ) → cond trailing 0 1 + more ≡ cond (not trailing) (1 + more) more
+    next true more = omega arith
+    next false more = refl

@@ -1,12 +1,14 @@
 // Whether bytes are UTF-8, and how many characters they have.
 #![tactic(auto)]
 
-ghost use Rattle.std.specs.Prelude.{◌≡◌, true, ◌↔◌, ◌≤◌, ◌<◌, min, length, get_or};
+ghost use Rattle.std.specs.Prelude.{◌≡◌, true, ◌↔◌, ◌≤◌, MatchOption, length, get_or};
 ghost use Rattle.std.proofs.Math.Seq.{slice};
 ghost use Rattle.utf8.specs.Utf8.{Utf8};
 ghost use Rattle.utf8.specs.Rows.{is_trailing, row, two, three, four, width};
 ghost use Rattle.utf8.specs.Characters.{characters};
 
+// The rows are tested here, and not by std's `from_utf8`, whose contract is std's own definition: `is_utf8` promises the Standard's, `Utf8`, and
+// surrogates_alike and the edits beside it change the rows.
 // A byte behind the first.
 #[tactic(auto, unfolding(crate::specs::Rows::is_trailing))]
 fn is_trailing(byte: u8) -> bool
@@ -61,63 +63,49 @@ fn byte_within(bytes: &[u8], at: usize, k: usize, to: usize) -> u8
     if k < to - at { bytes[at + k] } else { 0xff }
 }
 
-// How many bytes the encoding takes that begins at a place; 0 where none does.
-fn width_at(bytes: &[u8], at: usize, to: usize) -> usize
+// How many bytes the encoding takes that begins at a place; nothing where none does.
+fn width_at(bytes: &[u8], at: usize, to: usize) -> Option<usize>
     requires { (at ≤ to) × (to ≤ length bytes.now) }
-    ensures { (result ≡ width (slice at to bytes.now)) × (result ≤ 4) }
+    ensures { MatchOption result (width (slice at to bytes.now) ≡ 0) (λ wide. (wide ≡ width (slice at to bytes.now)) × (1 ≤ wide) × (wide ≤ 4)) }
 {
     let a = byte_within(bytes, at, 0, to);
     if a <= 0x7f {
-        return 1;
+        return Some(1);
     }
     let b = byte_within(bytes, at, 1, to);
     if two(a, b) {
-        return 2;
+        return Some(2);
     }
     let c = byte_within(bytes, at, 2, to);
     if three(a, b, c) {
-        return 3;
+        return Some(3);
     }
     if four(a, b, c, byte_within(bytes, at, 3, to)) {
-        return 4;
+        return Some(4);
     }
-    0
-}
-
-// Where the bytes that lie before a place end.
-fn end_before(bytes: &[u8], to: usize) -> usize
-    ensures { result ≡ min to (length bytes.now) }
-{
-    if to < bytes.len() { to } else { bytes.len() }
+    None
 }
 
 // Whether the bytes from a place to a place are UTF-8. There are none past the end of the slice.
 pub fn is_utf8(bytes: &[u8], from: usize, to: usize) -> bool
     ensures { (result ≡ true) ↔ Utf8 (slice from to bytes.now) }
 {
-    let end = end_before(bytes, to);
+    let end = to.min(bytes.len());
     let mut at = from;
+    // a `while`: a turn goes on by the width of an encoding, 1 to 4 bytes
     while at < end {
-        let width = width_at(bytes, at, end);
-        if width == 0 {
+        let Some(width) = width_at(bytes, at, end) else {
             return false;
-        }
+        };
         at += width;
     }
     true
 }
 
 // How many characters the bytes have.
+#[tactic(auto, using(crate::proofs::Counted::characters_count))]
 pub fn characters(bytes: &[u8]) -> usize
     ensures { result ≡ characters bytes.now }
 {
-    let mut count = 0;
-    let mut at = 0;
-    while at < bytes.len() {
-        if !is_trailing(bytes[at]) {
-            count += 1;
-        }
-        at += 1;
-    }
-    count
+    bytes.iter().filter(|byte| !is_trailing(**byte)).count()
 }

@@ -9,7 +9,7 @@ use mathlib.Core.Bool.{Bool, true, false, not, cond, ◌&&◌, true≢false, fal
 use Rattle.numbers.specs.Last.{last_of}
 use Rattle.card.specs.declared.Card.{Card}
 use Rattle.record.specs.declared.Record.{Record}
-use Rattle.causes.specs.declared.Causes.{Causes}
+use Rattle.causes.specs.Causes.{Causes}
 use Rattle.causes.specs.Held.{held_in}
 use Rattle.causes.specs.Keeping.{keeps, step_10_held}
 use Rattle.causes.specs.Cause.{Cause, NZ1, NZ2, NZ3, NZ4, NZ5, among}

@@ -1,3 +1,4 @@
+pub mod Starts
 pub mod Why
 pub mod Told
 pub mod Promise

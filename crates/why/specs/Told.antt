@@ -1,17 +1,17 @@
 -- What one pass over the records finds, in the structs that the code hands on.
-use Rattle.std.specs.Prelude.{ℕ, ◌*◌, ◌≤◌, Bool, not, ◌&&◌, cond, List}
-use Rattle.refusal.specs.Refusal.{bad_record, first_refusal}
+use Rattle.std.specs.Prelude.{ℕ, ◌*◌, ◌≤◌, Bool, not, ◌&&◌, cond, List, Result, Ok, Err}
+use Rattle.refusal.specs.declared.Refusal.{Refusal}
+use Rattle.refusal.specs.declared.Refusal.TheVariants.{BadRecord}
 use Rattle.card.specs.declared.Card.{Card}
 use Rattle.record.specs.declared.Record.{Record}
 use Rattle.record.specs.Record.{record_width}
-use Rattle.causes.specs.declared.Causes.{Causes}
+use Rattle.causes.specs.Causes.{Causes}
 use Rattle.causes.specs.Held.{held_in}
 use Rattle.causes.specs.Cause.{Cause, NZ1, NZ2, NZ3, NZ4, NZ5}
-use Rattle.state.specs.State.{fresh_state}
 use Rattle.rules.specs.After.{after}
 use Rattle.journal.specs.Journal.{records, all_in_range}
 use Rattle.desk.specs.declared.Desk.{Desk}
-use Rattle.why.specs.declared.Starts.{Starts}
+use Rattle.why.specs.Starts.{Starts}
 use Rattle.why.specs.declared.Told.{Told}
 use Rattle.why.specs.declared.Reasons.{Reasons}
 use Rattle.why.specs.Why.{began, reason_of, rebuilt_refusal}
@@ -32,10 +32,6 @@ starts_at tick was is starts =
       nz5 = start_at tick (held_in was).nz5 (held_in is).nz5 starts.nz5;
     }
 
--- a record out of range
-abbrev pub not_told : Told
-not_told = record { refusal = bad_record; state = fresh_state; starts = no_starts }
-
 module _ (card : Card) (journal : List ℕ) where
   unfoldable pub starts_after : ℕ → Starts
   starts_after n =
@@ -48,16 +44,15 @@ module _ (card : Card) (journal : List ℕ) where
       }
 
   abbrev pub all_told : ℕ → Told
-  all_told n = record { refusal = 0; state = (after card (records journal) n).state; starts = starts_after n }
+  all_told n = record { state = (after card (records journal) n).state; starts = starts_after n }
 
-  unfoldable pub retold : ℕ → Told
-  retold n = cond (all_in_range journal n) (all_told n) not_told
+  -- 9
+  unfoldable pub retold : ℕ → Result Told Refusal
+  retold n = cond (all_in_range journal n) (Ok (all_told n)) (Err BadRecord)
 
--- 9, 23, 14
+-- 23, 14
 unfoldable pub retold_refusal : Desk → Told → ℕ
-retold_refusal desk told =
-    first_refusal told.refusal
-    (rebuilt_refusal desk (record { card = desk.card; n = desk.n; state = told.state }))
+retold_refusal desk told = rebuilt_refusal desk (record { card = desk.card; n = desk.n; state = told.state })
 
 unfoldable pub start_of : Cause → Starts → ℕ
 start_of NZ1 starts = starts.nz1

@@ -1,23 +1,25 @@
 // Why the valve is open: for each held cause the tick at which its present holding began, and that tick's record, told from the journal.
 #![tactic(auto)]
 
-ghost use Rattle.std.specs.Prelude.{◌≡◌, true, ◌*◌, ◌≤◌, length};
-ghost use Rattle.card.specs.Card.{CardRanges};
+ghost use Rattle.std.specs.Prelude.{◌≡◌, true, ◌*◌, ◌≤◌, length, IfOk};
+ghost use Rattle.refusal.specs.Number.{number, number_of};
 ghost use Rattle.record.specs.Record.{record_width};
 ghost use Rattle.causes.specs.Cause.{Cause, among};
 ghost use Rattle.journal.specs.Journal.{records};
-ghost use Rattle.why.specs.Why.{no_reason, refused, reason_of, why_outcome};
-ghost use Rattle.why.specs.Told.{no_starts, start_at, starts_at, not_told, retold, retold_refusal, start_of, StartFits, reasons_of};
+ghost use Rattle.why.specs.Why.{refused, reason_of, rebuilt_refusal, all_reasons, why_refusal, why_outcome};
+ghost use Rattle.why.specs.Told.{start_at, starts_at, retold, retold_refusal, start_of, StartFits, reasons_of};
 
 use card::Card;
-use causes::Causes;
+use causes::{Causes, PerCause};
 use desk::Desk;
+use ranges::InRange;
 use record::{RECORD_WIDTH, Record};
+use refusal::Refusal;
 use state::State;
 
 // Why a cause is held; zeros where it is not.
 #[repr(C)]
-#[derive(Clone, Copy)]
+#[derive(Clone, Copy, Default)]
 pub struct Reason {
     // the tick at which its present holding began, from 1
     pub tick: u16,
@@ -26,8 +28,9 @@ pub struct Reason {
 }
 
 // The number of the refusal, 0 where there is none, and of each cause why it is held.
+// Not a `Result`: C reads this struct (`foldharbor_reasons`).
 #[repr(C)]
-#[derive(Clone, Copy)]
+#[derive(Clone, Copy, Default)]
 pub struct Reasons {
     pub refusal: u8,
     pub nz1: Reason,
@@ -38,63 +41,21 @@ pub struct Reasons {
 }
 
 // Of each cause the last tick that made it held; 0 where none did.
-#[derive(Clone, Copy)]
-pub struct Starts {
-    pub nz1: u16,
-    pub nz2: u16,
-    pub nz3: u16,
-    pub nz4: u16,
-    pub nz5: u16,
-}
+pub type Starts = PerCause<u16>;
 
-// What one pass over the records finds: the number of a refusal, 0 where there is none, the state that they rebuild, and the starts.
+// What one pass over the records finds: the state that they rebuild, and the starts.
 #[derive(Clone, Copy)]
 pub struct Told {
-    pub refusal: u8,
     pub state: State,
     pub starts: Starts,
 }
 
-fn no_reason() -> Reason
-    ensures { result ≡ no_reason }
+fn refused(refusal: Refusal) -> Reasons
+    ensures { result ≡ refused (number refusal) }
 {
-    Reason {
-        tick: 0,
-        reading: Record {
-            v: 0,
-            code: 0,
-            mode: 0,
-            lever: 0,
-            flags: 0,
-            band: 0,
-            sense: 0,
-        },
-    }
-}
-
-fn refused(number: u8) -> Reasons
-    ensures { result ≡ refused number }
-{
-    let nothing = no_reason();
     Reasons {
-        refusal: number,
-        nz1: nothing,
-        nz2: nothing,
-        nz3: nothing,
-        nz4: nothing,
-        nz5: nothing,
-    }
-}
-
-fn no_starts() -> Starts
-    ensures { result ≡ no_starts }
-{
-    Starts {
-        nz1: 0,
-        nz2: 0,
-        nz3: 0,
-        nz4: 0,
-        nz5: 0,
+        refusal: u8::from(refusal),
+        ..Reasons::default()
     }
 }
 
@@ -110,81 +71,43 @@ fn start_at(tick: u16, was: bool, is: bool, start: u16) -> u16
 fn starts_at(tick: u16, before: u8, after: u8, starts: Starts) -> Starts
     ensures { result ≡ starts_at tick before after starts }
 {
-    let was = causes::held_in(before);
-    let is = causes::held_in(after);
-    Starts {
-        nz1: start_at(tick, was.nz1, is.nz1, starts.nz1),
-        nz2: start_at(tick, was.nz2, is.nz2, starts.nz2),
-        nz3: start_at(tick, was.nz3, is.nz3, starts.nz3),
-        nz4: start_at(tick, was.nz4, is.nz4, starts.nz4),
-        nz5: start_at(tick, was.nz5, is.nz5, starts.nz5),
-    }
-}
-
-// A record out of range: nothing is told of the drive.
-fn not_told() -> Told
-    ensures { result ≡ not_told }
-{
-    let state = state::fresh_state();
-    let starts = no_starts();
-    Told {
-        refusal: refusal::BAD_RECORD,
-        state: state,
-        starts: starts,
-    }
+    let changes = causes::held_in(before).zip(causes::held_in(after), |was, is| (was, is));
+    changes.zip(starts, |(was, is), start| start_at(tick, was, is, start))
 }
 
 // The first n records, each looked at, driven and told of in turn.
-fn retold(card: Card, journal: &[u8], n: u16) -> Told
-    requires card_in_range { CardRanges card }
+fn retold(card: InRange<Card>, journal: &[u8], n: u16) -> Result<Told, Refusal>
     requires records_there { record_width * n ≤ length journal.now }
-    ensures { result ≡ retold card journal.now n }
+    ensures { result ≡ retold card.it journal.now n }
 {
-    let mut state = state::fresh_state();
-    let mut starts = no_starts();
-    let mut i: u16 = 0;
-    while i < n {
+    let mut state = state::fresh_state().it;
+    let mut starts = Starts::default();
+    for i in 0..n {
         let reading = record::record_at(journal, RECORD_WIDTH * (i as usize));
-        if !record::record_in_range(reading) {
-            return not_told();
-        }
-        let tick = rules::advance(card, state, reading);
+        let reading = InRange::of(reading).ok_or(Refusal::BadRecord)?;
+        let tick = rules::advance(card, InRange { it: state }, reading);
         starts = starts_at(i + 1, state.causes, tick.state.causes, starts);
-        let next = tick.state;
-        state = next;
-        i += 1;
+        state = tick.state;
     }
-    Told {
-        refusal: 0,
-        state: state,
-        starts: starts,
-    }
+    Ok(Told { state, starts })
 }
 
-// 9, 23, 14: of a desk by its records as they were told.
-#[tactic(auto, using(crate::proofs::Order::first_told, crate::proofs::Order::other_told, crate::proofs::Order::closed_told, crate::proofs::Order::taken_told))]
-fn retold_refusal(desk: Desk, told: Told) -> u8
-    ensures { result ≡ retold_refusal desk told }
+// 23, 14: of a desk by its records as they were told.
+#[tactic(auto, using(crate::proofs::Order::told), unfolding(refusal::specs::Number::number_of, refusal::specs::Number::number))]
+fn retold_refusal(desk: Desk, told: Told) -> Result<(), Refusal>
+    ensures { number_of result ≡ retold_refusal desk told }
 {
-    if told.refusal != 0 {
-        return told.refusal;
-    }
-    let card = desk.card;
-    let state = told.state;
     let rebuilt = Desk {
-        card: card,
-        n: desk.n,
-        state: state,
+        state: told.state,
+        ..desk
     };
-    let other = !same::same_desk(desk, rebuilt);
-    let closed = desk.state.causes == 0;
-    if other {
-        return refusal::OTHER_DESK;
+    if !same::same_desk(desk, rebuilt) {
+        return Err(Refusal::OtherDesk);
     }
-    if closed {
-        return refusal::VALVE_CLOSED;
+    if desk.state.causes == 0 {
+        return Err(Refusal::ValveClosed);
     }
-    0
+    Ok(())
 }
 
 // Why a cause is held, by its start.
@@ -194,7 +117,7 @@ fn reason_of(journal: &[u8], held: bool, start: u16) -> Reason
     ensures { result ≡ reason_of (records journal.now) held start }
 {
     if !held {
-        return no_reason();
+        return Reason::default();
     }
     Reason {
         tick: start,
@@ -218,19 +141,26 @@ fn reasons_of(journal: &[u8], held: Causes, starts: Starts) -> Reasons
     }
 }
 
+// The reasons, or the first of the refusals.
+#[tactic(auto, using(crate::proofs::Calls::of_why), unfolding(refusal::specs::Number::number_of))]
+fn explained(desk: Desk, journal: &[u8]) -> Result<Reasons, Refusal>
+    ensures refusal { number_of result ≡ why_refusal desk journal.now }
+    ensures reasons { IfOk result (λ reasons. reasons ≡ all_reasons desk journal.now) }
+{
+    let fit = desk::fit_desk(desk, journal.len())?;
+    let card = InRange { it: fit.it.card };
+    let told = retold(card, journal, desk.n)?;
+    retold_refusal(desk, told)?;
+    let held = causes::held_in(desk.state.causes);
+    Ok(reasons_of(journal, held, told.starts))
+}
+
+#[tactic(auto, using(crate::proofs::Calls::why_refused, crate::proofs::Calls::why_accepted), unfolding(refusal::specs::Number::number_of))]
 pub fn why(desk: Desk, journal: &[u8]) -> Reasons
     ensures { result ≡ why_outcome desk journal.now }
 {
-    let first = desk::desk_refusal(desk, journal.len());
-    if first != 0 {
-        return refused(first);
+    match explained(desk, journal) {
+        Ok(reasons) => reasons,
+        Err(refusal) => refused(refusal),
     }
-    let card = desk.card;
-    let told = retold(card, journal, desk.n);
-    let refusal = retold_refusal(desk, told);
-    if refusal != 0 {
-        return refused(refusal);
-    }
-    let starts = told.starts;
-    reasons_of(journal, causes::held_in(desk.state.causes), starts)
 }

@@ -5,8 +5,9 @@
 ghost use Rattle.std.specs.Prelude.{◌≡◌, ◌+◌, ◌*◌, ◌≤◌, ◌<◌};
 
 use record::Record;
-use std::io;
 use std::io::Write;
+use std::{fmt, io};
+use texts::Tables;
 
 // Where each kind of message begins in a table of texts.
 const CAUSES: u32 = 0;
@@ -51,112 +52,143 @@ fn time_of(tick: u16) -> Time
     }
 }
 
-// A tick and its time, with something between them.
-fn print_tick<W: Write>(out: &mut W, tick: u16, between: &[u8]) -> io::Result<()> {
-    let time = time_of(tick);
-    let minutes = time.minutes;
-    let seconds = time.seconds;
-    let tenths = time.tenths;
-    write!(out, "tick {tick}")?;
-    out.write_all(between)?;
-    write!(out, "{minutes}:{seconds:02}.{tenths}")
+impl fmt::Display for Time {
+    fn fmt<W: fmt::Write>(&self, f: &mut fmt::Formatter<W>) -> fmt::Result {
+        let minutes = self.minutes;
+        let seconds = self.seconds;
+        let tenths = self.tenths;
+        write!(f, "{minutes}:{seconds:02}.{tenths}")
+    }
 }
 
-fn print_speed<W: Write>(out: &mut W, v: u16) -> io::Result<()> {
-    write!(out, "{}.{} km/h", v / 10, v % 10)
+// In tenths of km/h.
+#[derive(Clone, Copy)]
+struct Speed(u16);
+
+impl fmt::Display for Speed {
+    fn fmt<W: fmt::Write>(&self, f: &mut fmt::Formatter<W>) -> fmt::Result {
+        write!(f, "{}.{} km/h", self.0 / 10, self.0 % 10)
+    }
 }
 
-fn print_name<W: Write>(out: &mut W, cause: u8) -> io::Result<()> {
-    write!(out, "NZ{}", cause as u16 + 1)
+// The name of a cause.
+#[derive(Clone, Copy)]
+struct Name(u8);
+
+impl fmt::Display for Name {
+    fn fmt<W: fmt::Write>(&self, f: &mut fmt::Formatter<W>) -> fmt::Result {
+        write!(f, "NZ{}", self.0 as u16 + 1)
+    }
+}
+
+// Of the lever and of motion.
+#[derive(Clone, Copy)]
+struct Direction(u8);
+
+impl fmt::Display for Direction {
+    fn fmt<W: fmt::Write>(&self, f: &mut fmt::Formatter<W>) -> fmt::Result {
+        f.write_str(match self.0 {
+            1 => "forward",
+            2 => "reverse",
+            _ => "none",
+        })
+    }
+}
+
+// Of the main line's pressure.
+#[derive(Clone, Copy)]
+struct Band(u8);
+
+impl fmt::Display for Band {
+    fn fmt<W: fmt::Write>(&self, f: &mut fmt::Formatter<W>) -> fmt::Result {
+        f.write_str(match self.0 {
+            0 => "below 3.5 bar",
+            1 => "3.5 to below 4.5 bar",
+            _ => "from 4.5 bar",
+        })
+    }
+}
+
+const FLAGS: [(u8, &str); 7] = [
+    (record::VIGILANCE, "vigilance"),
+    (record::PLUS, "PLUS"),
+    (record::MAN, "MAN"),
+    (record::BRAKE, "direct brake"),
+    (record::REMOTE, "remote stop"),
+    (record::LOSS, "adhesion loss"),
+    (record::CAB, "cab"),
+];
+
+// The flags that are on, a comma between them.
+#[derive(Clone, Copy)]
+struct Flags(u8);
+
+impl fmt::Display for Flags {
+    fn fmt<W: fmt::Write>(&self, f: &mut fmt::Formatter<W>) -> fmt::Result {
+        if self.0 == 0 {
+            return f.write_str("nothing");
+        }
+        let mut one_before = false;
+        for (weight, name) in FLAGS {
+            if self.0 & weight != 0 {
+                if one_before {
+                    f.write_str(", ")?;
+                }
+                f.write_str(name)?;
+                one_before = true;
+            }
+        }
+        Ok(())
+    }
+}
+
+// What stands beside a cause: the signal code and the mode.
+#[derive(Clone, Copy)]
+struct InForce {
+    code: u8,
+    mode: u8,
 }
 
 // A cause's text in a language, with the names of a signal code and of a mode.
 fn print_text<'a, W: Write>(
     out: &mut W,
-    first: &'a [u8],
-    second: &'a [u8],
+    tables: Tables<'a>,
     language: u32,
     cause: u8,
-    code: u8,
-    mode: u8,
+    beside: InForce,
 ) -> io::Result<()> {
     out.write_all(b"  ")?;
-    listing::print_one(out, first, second, language, CAUSES + (cause as u32))?;
+    listing::print_one(out, tables, language, CAUSES + (cause as u32))?;
     out.write_all(b" (")?;
-    listing::print_one(out, first, second, language, CODES + (code as u32))?;
+    listing::print_one(out, tables, language, CODES + (beside.code as u32))?;
     out.write_all(b", ")?;
-    listing::print_one(out, first, second, language, MODES + (mode as u32))?;
+    listing::print_one(out, tables, language, MODES + (beside.mode as u32))?;
     out.write_all(b")\n")
 }
 
 fn print_texts<'a, W: Write>(
     out: &mut W,
-    first: &'a [u8],
-    second: &'a [u8],
+    tables: Tables<'a>,
     cause: u8,
-    code: u8,
-    mode: u8,
+    beside: InForce,
 ) -> io::Result<()> {
-    print_text(out, first, second, 1, cause, code, mode)?;
-    print_text(out, first, second, 2, cause, code, mode)
-}
-
-// Of the lever and of motion.
-fn print_direction<W: Write>(out: &mut W, direction: u8) -> io::Result<()> {
-    match direction {
-        1 => out.write_all(b"forward"),
-        2 => out.write_all(b"reverse"),
-        _ => out.write_all(b"none"),
+    for language in [1, 2] {
+        print_text(out, tables, language, cause, beside)?;
     }
-}
-
-fn print_band<W: Write>(out: &mut W, band: u8) -> io::Result<()> {
-    match band {
-        0 => out.write_all(b"below 3.5 bar"),
-        1 => out.write_all(b"3.5 to below 4.5 bar"),
-        _ => out.write_all(b"from 4.5 bar"),
-    }
-}
-
-// A flag that is on, behind a comma where one of lower weight is on.
-fn print_flag<W: Write>(out: &mut W, flags: u8, weight: u8, name: &[u8]) -> io::Result<()>
-    requires { 1 ≤ weight }
-{
-    if flags / weight % 2 == 0 {
-        return Ok(());
-    }
-    if flags % weight != 0 {
-        out.write_all(b", ")?;
-    }
-    out.write_all(name)
-}
-
-fn print_flags<W: Write>(out: &mut W, flags: u8) -> io::Result<()> {
-    if flags == 0 {
-        return out.write_all(b"nothing");
-    }
-    print_flag(out, flags, record::VIGILANCE, b"vigilance")?;
-    print_flag(out, flags, record::PLUS, b"PLUS")?;
-    print_flag(out, flags, record::MAN, b"MAN")?;
-    print_flag(out, flags, record::BRAKE, b"direct brake")?;
-    print_flag(out, flags, record::REMOTE, b"remote stop")?;
-    print_flag(out, flags, record::LOSS, b"adhesion loss")?;
-    print_flag(out, flags, record::CAB, b"cab")
+    Ok(())
 }
 
 // What a record has beside its code and its mode.
 fn print_record<W: Write>(out: &mut W, reading: Record) -> io::Result<()> {
-    out.write_all(b"  ")?;
-    print_speed(out, reading.v)?;
-    out.write_all(b", mode asked for as above, lever ")?;
-    print_direction(out, reading.lever)?;
-    out.write_all(b", motion ")?;
-    print_direction(out, reading.sense)?;
-    out.write_all(b", main line ")?;
-    print_band(out, reading.band)?;
-    out.write_all(b", on: ")?;
-    print_flags(out, reading.flags)?;
-    out.write_all(b"\n")
+    let v = Speed(reading.v);
+    let lever = Direction(reading.lever);
+    let motion = Direction(reading.sense);
+    let band = Band(reading.band);
+    let flags = Flags(reading.flags);
+    writeln!(
+        out,
+        "  {v}, mode asked for as above, lever {lever}, motion {motion}, main line {band}, on: {flags}"
+    )
 }
 
 pub fn print_card<W: Write>(out: &mut W, number: u16) -> io::Result<()> {
@@ -166,24 +198,29 @@ pub fn print_card<W: Write>(out: &mut W, number: u16) -> io::Result<()> {
 // A cause begins to be held, or is let go.
 pub fn print_change<'a, W: Write>(
     out: &mut W,
-    first: &'a [u8],
-    second: &'a [u8],
+    tables: Tables<'a>,
     moment: Moment,
     cause: u8,
     held: bool,
 ) -> io::Result<()> {
-    print_tick(out, moment.tick, b"  ")?;
-    out.write_all(b"  ")?;
-    print_speed(out, moment.v)?;
-    out.write_all(b", permitted ")?;
-    print_speed(out, moment.permitted)?;
-    out.write_all(b": ")?;
-    print_name(out, cause)?;
+    let tick = moment.tick;
+    let time = time_of(tick);
+    let v = Speed(moment.v);
+    let permitted = Speed(moment.permitted);
+    let name = Name(cause);
+    let end = if held { "held" } else { "let go" };
+    writeln!(
+        out,
+        "tick {tick}  {time}  {v}, permitted {permitted}: {name} {end}"
+    )?;
     if !held {
-        return out.write_all(b" let go\n");
+        return Ok(());
     }
-    out.write_all(b" held\n")?;
-    print_texts(out, first, second, cause, moment.code, moment.mode)
+    let beside = InForce {
+        code: moment.code,
+        mode: moment.mode,
+    };
+    print_texts(out, tables, cause, beside)
 }
 
 // No cause has begun to be held.
@@ -192,39 +229,37 @@ pub fn print_quiet<W: Write>(out: &mut W) -> io::Result<()> {
 }
 
 pub fn print_open<W: Write>(out: &mut W, tick: u16) -> io::Result<()> {
-    out.write_all(b"after ")?;
-    print_tick(out, tick, b", ")?;
-    out.write_all(b", the valve is open\n")
+    let time = time_of(tick);
+    writeln!(out, "after tick {tick}, {time}, the valve is open")
 }
 
 // A cause is held since a tick, which had this record.
 pub fn print_reason<'a, W: Write>(
     out: &mut W,
-    first: &'a [u8],
-    second: &'a [u8],
+    tables: Tables<'a>,
     cause: u8,
     tick: u16,
     reading: Record,
 ) -> io::Result<()> {
-    print_name(out, cause)?;
-    out.write_all(b" held since ")?;
-    print_tick(out, tick, b", ")?;
-    out.write_all(b"\n")?;
-    print_texts(out, first, second, cause, reading.code, reading.mode)?;
+    let name = Name(cause);
+    let time = time_of(tick);
+    writeln!(out, "{name} held since tick {tick}, {time}")?;
+    let beside = InForce {
+        code: reading.code,
+        mode: reading.mode,
+    };
+    print_texts(out, tables, cause, beside)?;
     print_record(out, reading)
 }
 
-// A refusal and its texts.
-pub fn print_refusal<'a, W: Write>(
-    out: &mut W,
-    first: &'a [u8],
-    second: &'a [u8],
-    refusal: u8,
-) -> io::Result<()> {
+// A refusal and its texts. Of any u8, as ever: a `Refusal` would ask more.
+pub fn print_refusal<'a, W: Write>(out: &mut W, tables: Tables<'a>, refusal: u8) -> io::Result<()> {
     let number = REFUSALS + (refusal as u32);
-    write!(out, "refused {refusal}\n  ")?;
-    listing::print_one(out, first, second, 1, number)?;
-    out.write_all(b"\n  ")?;
-    listing::print_one(out, first, second, 2, number)?;
-    out.write_all(b"\n")
+    writeln!(out, "refused {refusal}")?;
+    for language in [1, 2] {
+        out.write_all(b"  ")?;
+        listing::print_one(out, tables, language, number)?;
+        out.write_all(b"\n")?;
+    }
+    Ok(())
 }

@@ -1,11 +1,8 @@
--- `runs_read` keeps: the sum is that of the runs so far, and none of them is refused. The measure is how many are left.
-use Rattle.std.proofs.Common.{◌-◌, ◌≤◌, ◌≡◌}
+-- `runs_read` keeps: the sum is that of the runs so far, and none of them is refused.
+use Rattle.std.proofs.Common.{◌≤◌, ◌≡◌}
 use Rattle.record.specs.Times.{most_ticks}
 use Rattle.file.specs.Runs.{ticks_to, runs_refusal}
 use Rattle.file.proofs.runs_read.Given as goal
 
 abbrev pub invariant-loop-j : goal.invariant-loop-j
-invariant-loop-j l = (l.j ≤ l.runs) × (l.sum ≡ ticks_to l.file l.j) × (l.sum ≤ most_ticks) × (runs_refusal l.file l.j ≡ 0)
-
-abbrev pub decreases-loop-j : goal.decreases-loop-j
-decreases-loop-j l = l.runs - l.j
+invariant-loop-j l = record { sum : l.sum ≡ ticks_to l.file l.j; most : l.sum ≤ most_ticks; good : runs_refusal l.file l.j ≡ 0 }

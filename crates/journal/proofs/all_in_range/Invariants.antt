@@ -1,10 +1,7 @@
--- `all_in_range`'s loop: the records so far are in range. The measure is how many are left.
-use Rattle.std.proofs.Common.{◌≡◌, ◌≤◌, ◌-◌, true}
+-- `all_in_range`'s loop: the records so far are in range.
+use Rattle.std.proofs.Common.{◌≡◌, true}
 use Rattle.journal.specs.Journal.{all_in_range}
 use Rattle.journal.proofs.all_in_range.Given as goal
 
 abbrev pub invariant-loop-i : goal.invariant-loop-i
-invariant-loop-i l = (l.i ≤ l.m) × (all_in_range l.journal l.i ≡ true)
-
-abbrev pub decreases-loop-i : goal.decreases-loop-i
-decreases-loop-i l = l.m - l.i
+invariant-loop-i l = all_in_range l.journal l.i ≡ true

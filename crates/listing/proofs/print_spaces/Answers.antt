@@ -1,5 +1,5 @@
 -- Spaces behind spaces are as many as both.
-use Rattle.std.proofs.Common.{◌≡◌, ℕ, ◌+◌, ◌-◌, ◌≤◌, List, OnOk, Result, arith, ap, ◌∙◌, subst}
+use Rattle.std.proofs.Common.{◌≡◌, ℕ, ◌+◌, ◌*◌, ◌%◌, List, OnOk, Result, arith, ap, ◌∙◌, subst}
 use Rattle.std.proofs.lemmas.List.{replicate-append-replicate, take-replicate}
 use Rattle.std.proofs.KnownBytes.{Appends-trans}
 use Rattle.std.specs.Io.KnownBytes.{Appends}
@@ -8,26 +8,20 @@ use Rattle.std.specs.declared.result.Result.TheVariants.{Ok, Err}
 use Rattle.listing.specs.Printed.{spaces}
 use Rattle.listing.proofs.print_spaces.Goals as goal
 
-more : (a b c : Option (List ℕ)) (count left n : ℕ) → left ≤ count → n ≤ left
-    → Appends a b (spaces (count - left)) → Appends b c (spaces n) → Appends a c (spaces (count - (left - n)))
-more a b c count left n within fits before then =
-    let same : (count - left) + n ≡ count - (left - n) = omega arith in
-    subst (Appends a c) (replicate-append-replicate (count - left) n 32 ∙ ap spaces same) (Appends-trans a b c _ _ before then)
+more : (a b c : Option (List ℕ)) (n m count : ℕ) → n + m ≡ count → Appends a b (spaces n) → Appends b c (spaces m) → Appends a c (spaces count)
+more a b c n m count all before then = subst (Appends a c) (replicate-append-replicate n m 32 ∙ ap spaces all) (Appends-trans a b c _ _ before then)
 
-last : {E : Type 0} (a b c : Option (List ℕ)) (r : Result (Unit {0}) E) (count left : ℕ) (written : List ℕ) → left ≤ count → written ≡ spaces left
-    → Appends a b (spaces (count - left)) → OnOk r (Appends b c written) → OnOk r (Appends a c (spaces count))
-last a b c (Ok u) count left written within is before then =
-    let same : count - (left - left) ≡ count = omega arith in
-    subst (Appends a c) (ap spaces same) (more a b c count left left within (omega arith) before (subst (Appends b c) is then))
-last a b c (Err e) count left written within is before then = tt
+last : {E : Type 0} (a b c : Option (List ℕ)) (r : Result (Unit {0}) E) (n m count : ℕ) (written : List ℕ) → n + m ≡ count → written ≡ spaces m
+    → Appends a b (spaces n) → OnOk r (Appends b c written) → OnOk r (Appends a c (spaces count))
+last a b c (Ok u) n m count written all is before then = more a b c n m count all before (subst (Appends b c) is then)
+last a b c (Err e) n m count written all is before then = tt
 
-pub loop-left-preserved : goal.loop-left-preserved
-loop-left-preserved g c =
-    (omega arith, more _ _ _ c.args.count c.loop-left.left 16 c.loop-left.invariant.0 (omega arith) c.loop-left.invariant.1 c.in_ok-write_all.ensures.bytes)
+pub loop-preserved : goal.loop-preserved
+loop-preserved g c = more _ _ _ (16 * c.loop.counter) 16 _ (omega arith) c.loop.invariant c.in_ok-write_all.ensures.bytes
 
 pub returns : goal.returns
 returns g c =
-    let left = c.loop-left.left in
-    let written = take-replicate left 16 32 (omega arith) in
-    let before = c.loop-left.invariant.1 in
-    record { bytes = last _ _ _ c.write_all-2.result c.args.count left _ c.loop-left.invariant.0 written before c.write_all-2.ensures.bytes }
+    let count = c.args.count in
+    let written = take-replicate (count % 16) 16 32 (omega arith) in
+    let inv = c.loop.invariant in
+    record { bytes = last _ _ _ c.write_all-2.result (16 * c.loop.counter) (count % 16) count _ (omega arith) written inv c.write_all-2.ensures.bytes }

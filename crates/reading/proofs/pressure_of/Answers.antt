@@ -8,14 +8,15 @@ use lib.IntN.{pos, negsuc}
 use lib.Ieee.{Float, nan, inf, fin, up, le, lt, of_bits}
 use Rattle.reading.specs.Number.{quantity}
 use Rattle.reading.specs.Pressure.{band_at, pressure_at, pressure_of}
-use Rattle.reading.specs.declared.Pressure.{Pressure}
-use Rattle.reading.specs.declared.Pressure.TheVariants.{Band, Refused}
+use Rattle.std.proofs.Common.{ℕ, Result, Ok, Err}
+use Rattle.refusal.specs.declared.Refusal.{Refusal}
+use Rattle.refusal.specs.declared.Refusal.TheVariants.{BadPressure}
 use Rattle.reading.proofs.Number.{zero, refused, lt_is, le_is}
 use Rattle.reading.proofs.pressure_of.Goals as goal
 
 -- the answer, by what `x <= 10.0`, `x < 3.5` and `x < 4.5` say
-abbrev answer : Bool → Bool → Bool → Pressure
-answer a b c = cond a (Band (cond b 0 (cond c 1 2))) Refused
+abbrev answer : Bool → Bool → Bool → Result ℕ Refusal
+answer a b c = cond a (Ok (cond b 0 (cond c 1 2))) (Err BadPressure)
 
 by_tests : (x : Float) (a b c : Bool) → le zero x ≡ true
     → le x (fin false 5 (pos 1)) ≡ a → lt x (fin false 7 (negsuc 0)) ≡ b → lt x (fin false 9 (negsuc 0)) ≡ c
@@ -30,7 +31,7 @@ by_tests x a b c h α β γ = go x (sym (le_is x 5 (pos 1) h) ∙ α) (sym (lt_i
     go (inf s) α β γ = rw (← α)
     go (fin s m e) α β γ = rw (← α, ← β, ← γ, one-mul (m * up e)) (spread (s && ltb 0 m) _ _ _)
       where
-        spread : (t a b c : Bool) → answer (cond t false a) (cond t false b) (cond t false c) ≡ cond t Refused (answer a b c)
+        spread : (t a b c : Bool) → answer (cond t false a) (cond t false b) (cond t false c) ≡ cond t (Err BadPressure) (answer a b c)
         spread true a b c = refl
         spread false a b c = refl
 

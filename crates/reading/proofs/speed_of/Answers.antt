@@ -10,21 +10,22 @@ use lib.Pow.{pow_pos}
 use lib.Ieee.{Float, binary32, le, of_bits, fits}
 use borrow.Author.Tests.{le-leb, lt-leb}
 use Rattle.reading.specs.Speed.{top_speed, speed_at, speed_of}
-use Rattle.reading.specs.declared.Speed.TheVariants.{Tenths, Refused}
+use Rattle.std.proofs.Common.{Ok, Err}
+use Rattle.refusal.specs.declared.Refusal.TheVariants.{BadSpeed}
 use Rattle.reading.proofs.Number.{zero, refused}
 use Rattle.reading.proofs.Patterns.{bits, exponent, units, units_most, units_least, at_ones, at_units, at_digits}
 use Rattle.reading.proofs.Rounding.{speed_by_value, rounded_slow, rounded_fast, rounded_cuts}
 use Rattle.reading.proofs.speed_of.Goals as goal
 
 module _ (x : Float) (k : T (fits binary32 x)) (h : le zero x ≡ true) where
-  slow : exponent (bits x) < 120 → Tenths 0 ≡ speed_of x
+  slow : exponent (bits x) < 120 → Ok 0 ≡ speed_of x
   unfolding speed_of speed_at
   slow l =
       let b = bits x in
       let few = mul-le-mul_left 128 (units_most b 119 (omega arith)) in
       sym (at_units _ _ x k speed_by_value h (omega arith) ∙ rw (rounded_slow (units b) (2 ^ 149) (pow_pos 149) few))
 
-  fast : 133 < exponent (bits x) → Refused ≡ speed_of x
+  fast : 133 < exponent (bits x) → Err BadSpeed ≡ speed_of x
   unfolding speed_of speed_at
   fast l =
       let b = bits x in
@@ -38,7 +39,7 @@ module _ (x : Float) (k : T (fits binary32 x)) (h : le zero x ≡ true) where
 
   middle : 120 ≤ exponent (bits x) → exponent (bits x) ≤ 133
       → (t : Bool) (v : ℕ) → v ≡ (72 * (8388608 + bits x % 8388608) / 2 ^ (150 - exponent (bits x)) + 1) / 2 → leb v top_speed ≡ t
-      → cond t (Tenths v) Refused ≡ speed_of x
+      → cond t (Ok v) (Err BadSpeed) ≡ speed_of x
   unfolding speed_of speed_at
   middle l u t v e g =
       let b = bits x in

@@ -1,25 +1,24 @@
--- `Desk::step_back` meets its contract: a number of 0 says all that `rebuilt` asks for, and that k is at most n (`back_taken`).
-use Rattle.std.proofs.Common.{sym, ◌∙◌, arith}
-use Rattle.desk.proofs.Calls.{back_taken, desk_ranges}
+-- `Desk::step_back` meets its contract: refused by the number that `fit_back` comes to, else with the desk and the count that it hands on.
+-- By the laws of a refused and of an accepted step back; an accepted one says all that `rebuilt` asks for (`back_records`).
+use Rattle.std.proofs.Common.{ap, ◌∙◌}
+use Rattle.refusal.specs.Number.{number_of}
+use Rattle.desk.specs.Calls.{accepted}
+use Rattle.desk.proofs.Calls.{back_refused, back_accepted, back_records}
 use Rattle.desk.proofs.Desk.step_back.Goals as goal
 
-pub overflow_cast-m : goal.overflow_cast-m
-overflow_cast-m c =
-    let t = back_taken _ _ _ (sym c.back_refusal-refusal.ensures ∙ c.if-refusal-ne0.false) in
-    let d = desk_ranges _ t.desk.desk_good in
-    let few = t.few in
-    omega arith
+pub returns-in-Err : goal.returns-in-Err
+unfolding number_of
+returns-in-Err c = c.refused.ensures ∙ back_refused _ _ _ _ c.in-Err.ensures.refusal
 
-pub overflow_sub-m : goal.overflow_sub-m
-overflow_sub-m c = (back_taken _ _ _ (sym c.back_refusal-refusal.ensures ∙ c.if-refusal-ne0.false)).few
+pub rebuilt-after-requires-clause-m_in_bounds : goal.rebuilt-after-requires-clause-m_in_bounds
+unfolding number_of
+rebuilt-after-requires-clause-m_in_bounds c = (back_records _ _ _ _ c.in-Ok.ensures.refusal c.in-Ok.ensures.fit.1).0
 
-pub rebuilt-requires-clause-card_ranges : goal.rebuilt-requires-clause-card_ranges
-rebuilt-requires-clause-card_ranges c =
-    let t = back_taken _ _ _ (sym c.back_refusal-refusal.ensures ∙ c.if-refusal-ne0.false) in
-    (desk_ranges _ t.desk.desk_good).card
+pub rebuilt-after-requires-clause-records_in_range : goal.rebuilt-after-requires-clause-records_in_range
+unfolding number_of
+rebuilt-after-requires-clause-records_in_range c = (back_records _ _ _ _ c.in-Ok.ensures.refusal c.in-Ok.ensures.fit.1).1
 
-pub rebuilt-requires-clause-m_in_bounds : goal.rebuilt-requires-clause-m_in_bounds
-rebuilt-requires-clause-m_in_bounds c =
-    let t = back_taken _ _ _ (sym c.back_refusal-refusal.ensures ∙ c.if-refusal-ne0.false) in
-    let long = t.desk.long in
-    omega arith
+pub returns-in-Ok : goal.returns-in-Ok
+unfolding number_of
+returns-in-Ok c =
+    c.accepted.ensures ∙ ap (accepted _ _) c.rebuilt-after.ensures ∙ back_accepted _ _ _ _ _ c.in-Ok.ensures.refusal c.in-Ok.ensures.fit
