@@ -53,9 +53,10 @@ pub fn target(card: InRange<Card>, code: u8, raise: u8) -> Speed
     ensures { result.tenths ≡ target card.it code raise }
 {
     let tenths = match code {
-        record::NONE | record::WARNING => 1200,
         record::STOP => card.it.stop,
         record::FORTY => 400 + 200 * (raise as u16),
+        // a guard: with an arm of two codes the match becomes a table of jumps, and a tick on a curve misses the goal of docs/TIMES.md
+        _ if (code == record::NONE) | (code == record::WARNING) => 1200,
         _ => 1600,
     };
     Speed { tenths }
