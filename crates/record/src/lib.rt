@@ -1,10 +1,10 @@
 // What the cab delivers: a sample, the record that a tick goes by, and its 8 bytes.
 #![tactic(auto)]
 
-ghost use Rattle.std.specs.Prelude.{◌≡◌, ◌+◌, ◌≤◌, length, IfOk};
+ghost use Rattle.std.specs.Prelude.{◌≡◌, ◌+◌, ◌≤◌, length, IfOk, IfErr};
 ghost use Rattle.record.specs.Modes.{pre_or_vyl};
 ghost use Rattle.record.specs.Flags.{keys_of};
-ghost use Rattle.refusal.specs.Number.{number_of};
+ghost use Rattle.refusal.specs.Number.{number, number_of};
 ghost use Rattle.record.specs.Record.{RecordRanges, record_in_range, record_width, record_at, put_record};
 ghost use Rattle.record.specs.Sample.{sample_refusal, sample_record};
 ghost use Rattle.record.specs.Laws.{record_laws};
@@ -145,9 +145,41 @@ impl Ranged for Record {
     }
 }
 
+// A sample that is refused: its record, in which a refused float reads 0, and the first of its refusals. The record stands first, where it lies in a sample
+// that is taken too: with the refusal first a tick misses the goal of docs/TIMES.md.
+#[derive(Clone, Copy)]
+pub struct BadSample {
+    pub reading: Record,
+    pub refusal: Refusal,
+}
+
+impl From<BadSample> for Refusal {
+    ghost from_gives = { λ bad refusal. refusal ≡ bad.refusal };
+
+    fn from(bad: BadSample) -> Refusal {
+        bad.refusal
+    }
+}
+
+// The record of any sample.
+#[tactic(auto, using(refusal::proofs::Number::or_none), unfolding(crate::specs::Sample::sample_record))]
+fn record_of(sample: Sample) -> Record
+    ensures { result ≡ sample_record sample }
+{
+    Record {
+        v: reading::speed_of(sample.speed).unwrap_or(0),
+        code: sample.code,
+        mode: sample.mode,
+        lever: sample.lever,
+        flags: sample.flags,
+        band: reading::pressure_of(sample.pressure).unwrap_or(0),
+        sense: sample.sense,
+    }
+}
+
 // The record of a sample, or the first of its refusals: speed, pressure, another field.
 #[tactic(auto, unfolding(crate::specs::Sample::sample_refusal, crate::specs::Sample::sample_record))]
-pub fn take_sample(sample: Sample) -> Result<InRange<Record>, Refusal>
+fn fit_sample(sample: Sample) -> Result<InRange<Record>, Refusal>
     ensures refusal { number_of result ≡ sample_refusal sample }
     ensures reading { IfOk result (λ reading. reading.it ≡ sample_record sample) }
 {
@@ -163,6 +195,21 @@ pub fn take_sample(sample: Sample) -> Result<InRange<Record>, Refusal>
         sense: sample.sense,
     };
     InRange::of(reading).ok_or(Refusal::BadField)
+}
+
+// The same, where a refused sample comes with its record too. Not one function: with the record made before it is judged a tick misses that goal.
+#[tactic(auto, unfolding(refusal::specs::Number::number_of))]
+pub fn take_sample(sample: Sample) -> Result<InRange<Record>, BadSample>
+    ensures taken { IfOk result (λ reading. (reading.it ≡ sample_record sample) × (sample_refusal sample ≡ 0)) }
+    ensures refused { IfErr result (λ bad. (bad.reading ≡ sample_record sample) × (number bad.refusal ≡ sample_refusal sample)) }
+{
+    match fit_sample(sample) {
+        Ok(reading) => Ok(reading),
+        Err(refusal) => Err(BadSample {
+            reading: record_of(sample),
+            refusal,
+        }),
+    }
 }
 
 // The most ticks of a drive: twelve minutes.

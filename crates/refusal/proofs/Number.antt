@@ -5,12 +5,12 @@ use native.Mathlib.Omega.{arith}
 use mathlib.Core.Path.{◌≡◌, refl, sym, ap, ◌∙◌}
 use mathlib.Core.Bool.{Bool, true, false, cond}
 use Rattle.std.proofs.Common.{Result, Ok, Err, IfOk, Option, None, Some, MatchOption}
-use Rattle.std.specs.Result.{IsErrAnd}
+use Rattle.std.specs.Result.{IsErrAnd, result_unwrap_or}
 use Rattle.std.specs.Option.{ok_or}
 use lib.ListN.{get_or}
 use mathlib.Core.List.{List, [], ◌∷◌}
 use Rattle.refusal.specs.Refusal.{first_refusal}
-use Rattle.refusal.specs.Number.{number, number_of}
+use Rattle.refusal.specs.Number.{number, number_of, value_of}
 use Rattle.refusal.specs.declared.Refusal.{Refusal}
 use Rattle.refusal.specs.declared.Refusal.TheVariants.{BadSpeed, BadPressure, BadField, BadCard, BadDesk, ShortJournal, FullJournal, BackTooFar, BadRecord}
 use Rattle.refusal.specs.declared.Refusal.TheVariants.{BadFile, BadTicks, ShortBuffer, NoSuchCard, ValveClosed, BadTable, NoSuchMessage, NoSuchLanguage, OtherDesk}
@@ -109,3 +109,9 @@ module _ {I : Type 0} (e : Refusal) where
   pub or_value : (Q : Type 0) (P : I → Type 0) (o : Option I) → MatchOption o Q P → (r : Result I Refusal) → r ≡ ok_or o e → IfOk r P
   or_value Q P None h r is = rw is tt
   or_value Q P (Some i) h r is = rw is h
+
+-- a value, or else the one given
+pub or_none : {A : Type 0} (none : A) (r : Result A Refusal) → result_unwrap_or r none ≡ value_of none r
+unfolding value_of
+or_none none (Ok x) = refl
+or_none none (Err e) = refl

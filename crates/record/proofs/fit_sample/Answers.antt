@@ -1,10 +1,10 @@
--- `take_sample` gives the number of the first refusal: a `?` passes it on, and the record's is 3.
+-- `fit_sample` gives the number of the first refusal: a `?` passes it on, and the record's is 3.
 use mathlib.Core.Path.{sym, ◌∙◌}
 use Rattle.refusal.specs.declared.Refusal.TheVariants.{BadField}
 use Rattle.refusal.proofs.Number.{passed_on, or_number, or_value}
 use Rattle.record.specs.Laws.{ranges_record}
 use Rattle.record.proofs.Refusal.{speed_refused, pressure_refused, record_read, field_refused}
-use Rattle.record.proofs.take_sample.Goals as goal
+use Rattle.record.proofs.fit_sample.Goals as goal
 
 pub returns-in_err-v-clause-refusal : goal.returns-in_err-v-clause-refusal
 returns-in_err-v-clause-refusal c =
