@@ -20,6 +20,7 @@ use Rattle.texts.specs.declared.Language.{Language}
 use Rattle.texts.specs.declared.Language.TheVariants.{First, Second}
 use Rattle.texts.specs.declared.Place.{Place}
 use Rattle.layout.proofs.Slices.{cut_slice}
+use Rattle.refusal.proofs.Number.{number_some}
 use Rattle.texts.proofs.Answers.{answer}
 
 module _ (table : List ℕ) (n : ℕ) where
@@ -64,6 +65,10 @@ module _ (table : List ℕ) (language n : ℕ) where
 
   pub refused_part : (refusal : Refusal) → place_of (Err refusal) ≡ text_place table language n → Refused refusal
   refused_part refusal e = record { told = ap (λ (p : Place). p.refusal) e; nothing = ap (λ (p : Place). slice p.start p.end table) e }
+
+  -- and it begins at the head of the table
+  pub refused_start : (refusal : Refusal) → number refusal ≡ (text_place table language n).refusal → (text_place table language n).start ≡ 0
+  refused_start refusal e = ((answer table language n).refused (λ z. number_some refusal (e ∙ z))).0
 
   pub record Part (start end : ℕ) : Type 0 where
     pub accepted : 0 ≡ (text_place table language n).refusal

@@ -161,6 +161,9 @@ impl<'a> Tables<'a> {
     }
 
     // Where a message begins and ends in the table of its language.
+    #[tactic(auto, unfolding(crate::specs::Text::text_place, crate::specs::Text::text_refusal,
+    // a refusal, by its number
+    refusal::specs::Number::number, refusal::specs::Number::number_of))]
     fn place(self, language: u32, number: u32) -> Result<(u16, u16), Refusal>
         ensures { place_of result ≡ text_place (chosen language self.entry.first self.entry.second).now language number }
     {
@@ -168,6 +171,9 @@ impl<'a> Tables<'a> {
     }
 
     // The text itself, a part of the table of its language and no copy.
+    #[tactic(auto, unfolding(crate::specs::Text::text_place, crate::specs::Text::text_refusal,
+    // a refusal, by its number
+    refusal::specs::Number::number, refusal::specs::Number::number_of))]
     pub fn text(self, language: u32, number: u32) -> Result<&'a [u8], Refusal>
         ensures refusal { number_of result ≡ (text_place (chosen language self.entry.first self.entry.second).now language number).refusal }
         ensures bytes { bytes_of result ≡ text_part (chosen language self.entry.first self.entry.second).now language number }
@@ -203,8 +209,19 @@ pub fn text<'a, 'b>(
     ensures address { result.ref_ptr ≡ text_address (chosen language first.entry second.entry) language number }
     ensures refusal { refusal.new ≡ (text_place (chosen language first.entry second.entry).now language number).refusal }
 {
-    let place = text_place(first, second, language, number);
-    *refusal = place.refusal;
-    let table = if language == 2 { second } else { first };
-    &table[place.start as usize..place.end as usize]
+    let tables = Tables {
+        first: first,
+        second: second,
+    };
+    match tables.text(language, number) {
+        Ok(part) => {
+            *refusal = 0;
+            part
+        }
+        Err(refused) => {
+            *refusal = u8::from(refused);
+            let table = if language == 2 { second } else { first };
+            &table[..0]
+        }
+    }
 }

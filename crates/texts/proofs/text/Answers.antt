@@ -1,25 +1,22 @@
--- The part is cut out of the chosen table at the place that `text_place` gives, which lies in the table;
+-- A part that is found is handed on with its address. Of a refusal it is the head of the chosen table, where a refused place begins too;
 -- the table that the `if` takes is the chosen one, which the search finds.
-use Rattle.std.proofs.Common.{◌≡◌, rules}
-use Rattle.layout.proofs.Slices.{cut_slice}
-use Rattle.texts.specs.Text.{chosen, text_place}
-use Rattle.texts.proofs.Answers.{answer}
+use native.Mathlib.Nat.{zero-add}
+use Rattle.std.proofs.Common.{◌≡◌, ◌∙◌, rules}
+use Rattle.refusal.specs.Number.{number_of}
+use Rattle.texts.specs.Text.{chosen}
+use Rattle.texts.proofs.Placed.{refused_start}
 use Rattle.texts.proofs.text.Goals as goal
 
-pub slice_bounds-result-count : goal.slice_bounds-result-count
-slice_bounds-result-count c = rw c.text_place-place.ensures (answer _ _ _).rising
+pub returns-in-Ok-clause-refusal : goal.returns-in-Ok-clause-refusal
+unfolding number_of
+returns-in-Ok-clause-refusal c = c.in-Ok.ensures.refusal
 
-pub slice_bounds-result-start : goal.slice_bounds-result-start
-slice_bounds-result-start c = rw c.text_place-place.ensures (answer _ _ _).rising
-
-pub slice_bounds-result-end : goal.slice_bounds-result-end
-slice_bounds-result-end c =
+pub returns-after-language-eq2-clause-address : goal.returns-after-language-eq2-clause-address
+unfolding number_of
+returns-after-language-eq2-clause-address c =
     let same : c.if-language-eq2.table ≡ chosen c.args.language c.args.first c.args.second = search rules in
-    rw (same, c.text_place-place.ensures) (answer _ _ _).most
+    rw (same, refused_start _ _ _ c.in-Err.refused c.in-Err.ensures.refusal, zero-add)
 
-pub returns-clause-bytes : goal.returns-clause-bytes
-returns-clause-bytes c =
-    let same : c.if-language-eq2.table ≡ chosen c.args.language c.args.first c.args.second = search rules in
-    let table = chosen c.args.language c.args.first c.args.second in
-    let there = text_place table.now c.args.language c.args.number in
-    rw (same, c.text_place-place.ensures) (cut_slice table.now there.start there.end)
+pub returns-after-language-eq2-clause-refusal : goal.returns-after-language-eq2-clause-refusal
+unfolding number_of
+returns-after-language-eq2-clause-refusal c = c.from.ensures ∙ c.in-Err.ensures.refusal
