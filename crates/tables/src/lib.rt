@@ -1,7 +1,7 @@
 // A table of texts from the file that an argument names.
 #![tactic(auto)]
 
-ghost use Rattle.std.specs.Prelude.{◌<◌, length, IfOk, IfSome};
+ghost use Rattle.std.specs.Prelude.{◌≡◌, ◌<◌, length, IfOk, IfSome};
 ghost use Rattle.std.specs.Io.{WritesAtMost};
 
 use std::env::FillError;
@@ -71,6 +71,7 @@ pub fn load<'a, R: Env + Files, W: Write>(
     table: &'a mut [u8],
 ) -> Option<&'a [u8]>
     ensures within { IfSome result (λ bytes. length bytes.now < length table.old) }
+    ensures at { IfSome result (λ bytes. bytes.ref_ptr ≡ table.entry.ref_ptr) }
 {
     let mut buffer = [0u8; NAME_MOST];
     let n = match name_at(rt, argument, &mut buffer) {
