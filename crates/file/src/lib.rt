@@ -7,7 +7,7 @@ ghost use Rattle.card.specs.Card.{card_width};
 ghost use Rattle.record.specs.Times.{most_ticks};
 ghost use Rattle.file.specs.File.{header_width, run_width, card_count, run_count, runs_from, header_good, card_in, cards_in_range, run_ticks, run_record};
 ghost use Rattle.file.specs.Runs.{run_fault, runs_refusal};
-ghost use Rattle.file.specs.Read.{tick_count, total_of, head_refusal, read_refusal, read_outcome};
+ghost use Rattle.file.specs.Read.{tick_count, total_of, runs_read, head_refusal, read_refusal, read_outcome};
 
 use card::{CARD_WIDTH, Card};
 use layout::u16_at;
@@ -170,11 +170,14 @@ fn run_fault(before: usize, ticks: usize, reading: Record) -> Result<(), Refusal
 }
 
 // The ticks of the runs, each in turn, of a file with a good header, or the first refusal.
-#[tactic(auto, using(crate::proofs::Header::header_length, crate::proofs::Runs::runs_stop), unfolding(refusal::specs::Number::number_of))]
+#[tactic(auto, using(crate::proofs::Header::header_length, crate::proofs::Runs::runs_stop,
+// ticks or refusal, as a total
+crate::proofs::Reader::runs_are), unfolding(refusal::specs::Number::number_of))]
 pub fn runs_read(file: &[u8]) -> Result<u16, Refusal>
     requires { header_good file.now ≡ true }
     ensures refusal { number_of result ≡ runs_refusal file.now (run_count file.now) }
     ensures ticks { IfOk result (λ ticks. ticks ≡ tick_count file.now) }
+    ensures total { total_of result ≡ runs_read file.now }
 {
     let from = runs_from(card_count(file));
     let mut sum = 0;
