@@ -208,10 +208,10 @@ pub fn print_change<'a, W: Write>(
     let v = Speed(moment.v);
     let permitted = Speed(moment.permitted);
     let name = Name(cause);
-    let end = if held { "held" } else { "let go" };
-    writeln!(
+    let end = if held { " held\n" } else { " let go\n" };
+    write!(
         out,
-        "tick {tick}  {time}  {v}, permitted {permitted}: {name} {end}"
+        "tick {tick}  {time}  {v}, permitted {permitted}: {name}{end}"
     )?;
     if !held {
         return Ok(());
@@ -255,11 +255,10 @@ pub fn print_reason<'a, W: Write>(
 // A refusal and its texts. Of any u8, as ever: a `Refusal` would ask more.
 pub fn print_refusal<'a, W: Write>(out: &mut W, tables: Tables<'a>, refusal: u8) -> io::Result<()> {
     let number = REFUSALS + (refusal as u32);
-    writeln!(out, "refused {refusal}")?;
+    write!(out, "refused {refusal}")?;
     for language in [1, 2] {
-        out.write_all(b"  ")?;
+        out.write_all(b"\n  ")?;
         listing::print_one(out, tables, language, number)?;
-        out.write_all(b"\n")?;
     }
-    Ok(())
+    out.write_all(b"\n")
 }
