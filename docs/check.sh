@@ -1,6 +1,6 @@
 #!/usr/bin/env bash
 # Whether the documents name what is there: definitions `crate/File.name`, laws `crate/proofs/File.name`, functions `crate::name`
-# and edits `crate/name` of RULES.md and CONTRACTS.md exist, CONTRACTS.md lists every edit, and every link leads to a file.
+# or `crate::Type::name` and edits `crate/name` of RULES.md and CONTRACTS.md exist, CONTRACTS.md lists every edit, and every link leads to a file.
 # And whether each exported function gets into the archive, is declared in the header, and hands on to the function of its name in the crate below, with
 # the same parameters and clauses; and that one stands in CONTRACTS.md and has its lemmas.
 cd "$(dirname "$0")/.." || exit 1
@@ -17,9 +17,11 @@ for name in $names; do
         file=${name#"$crate"/}
         [[ $file == proofs/* ]] || file=specs/$file
         grep -Eq "^ *((abbrev|unfoldable|record|data|pub) )*${last/\?/\\?}( |\$)" "crates/$crate/${file%.*}.antt" 2>/dev/null || miss "no $name"
-    elif [[ $name =~ ^([A-Za-z0-9_]+)::([a-z0-9_]+) ]]; then
+    elif [[ $name =~ ^([A-Za-z0-9_]+)::([A-Z][A-Za-z0-9]*::)?([a-z0-9_]+) ]]; then
         crate=${BASH_REMATCH[1]/Desk/desk}
-        grep -Eq "fn ${BASH_REMATCH[2]}(<.*>)?\(" "crates/$crate"/src/*.rt 2>/dev/null || miss "no function $name"
+        grep -Eq "fn ${BASH_REMATCH[3]}(<.*>)?\(" "crates/$crate"/src/*.rt 2>/dev/null || miss "no function $name"
+        type=${BASH_REMATCH[2]%::}
+        [ -z "$type" ] || grep -Eqw "(struct|enum|trait) $type" "crates/$crate"/src/*.rt 2>/dev/null || miss "no type of $name"
     elif [[ $name =~ ^[a-z0-9_]+/[a-z0-9_]+$ && -d crates/$crate ]]; then
         [ -f "crates/$crate/must-fail/${name#*/}.edit" ] || miss "no edit $name"
     fi
