@@ -2,8 +2,9 @@
 // What tells stops at the first write that fails and answers its error.
 #![tactic(auto)]
 
-ghost use Rattle.std.specs.Prelude.{◌≡◌, ◌+◌, ◌≤◌, ◌<◌, IfOk};
+ghost use Rattle.std.specs.Prelude.{◌≡◌, ◌+◌, ◌-◌, ◌≤◌, ◌<◌, IfOk};
 ghost use Rattle.record.specs.Times.{most_ticks};
+ghost use Rattle.file.specs.File.{card_in};
 
 use card::Card;
 use desk::Desk;
@@ -163,14 +164,16 @@ fn tell_why<'a, W: Write>(
     Ok(())
 }
 
-// The drive of a card, under the card's number, and why the valve is open at its end.
+// The drive of a card, under its number in the file, and why the valve is open at its end.
 fn tell_card<'a, 'b, W: Write>(
     out: &mut W,
     tables: Tables<'a>,
     drives: Drives<'b>,
     number: u16,
     card: InRange<Card>,
-) -> io::Result<()> {
+) -> io::Result<()>
+    requires { card.it ≡ card_in drives.exercise.file.now (number - 1) }
+{
     wording::print_card(out, number)?;
     let mut journal = [0u8; JOURNAL_MOST];
     let drive = tell_runs(out, tables, drives, card, &mut journal)?;
